@@ -112,11 +112,11 @@ class Sources:
         for used in USE[path.rpartition(".")[2]].findall(text):
             if used.startswith("Rattle."):
                 module, _, names = used.removeprefix("Rattle.").partition(".{")
-                module, _, alias = module.partition(" as ")
-                space, owner = self.place(module)
-                for part in names.rstrip("}").split(",") if names else [f" as {alias or module.rpartition('.')[2]}"]:
-                    name, _, alias = (word.strip().strip("◌") for word in part.partition(" as "))
-                    uses[alias or name].add((space, owner or name))
+                for part in names.rstrip("}").split(",") if names else [""]:
+                    brought, _, alias = f"{module}.{part.strip()}".removesuffix(".").partition(" as ")
+                    inner, _, name = brought.rpartition(".")
+                    space, owner = self.place(inner if names else brought)
+                    uses[(alias or name).strip("◌")].add((space, owner or (name.strip("◌") if names else "")))
             else:
                 crate = re.match(r"\w+", used)[0]
                 for name, alias in re.findall(r"(\w+)(?:\s+as\s+(\w+))?", used):

@@ -4,10 +4,8 @@
 
 ghost use Rattle.std.specs.Prelude.{◌≡◌, ◌≢◌, false, IfOk, IfNone, IfSome, List};
 ghost use Rattle.filterset_expression.specs.Expression.{has_leaf, is_default, is_group};
-ghost use Rattle.filterset_expression.specs.FlatExpressions.{IsFlatOfTree};
-ghost use Rattle.filterset_expression.specs.Meaning.{Meaning};
-ghost use Rattle.filterset_expression.specs.declared.expression.CompiledExpr.{CompiledExpr};
-ghost use Rattle.filterset_expression.specs.declared.query.TestQuery.{TestQuery};
+ghost use Rattle.filterset_expression.specs.{FlatExpressions.IsFlatOfTree, Meaning.Meaning};
+ghost use Rattle.filterset_expression.specs.declared.{expression.CompiledExpr.CompiledExpr, query.TestQuery.TestQuery};
 ghost use Rattle.filterset_faults.specs.declared.kind.FiltersetKind.TheVariants as kinds;
 ghost use Rattle.filterset_faults.specs.declared.span.SourceSpan.{SourceSpan};
 ghost use Rattle.filterset_grammar.specs.Tree.{Tree};

@@ -1,21 +1,15 @@
 -- Sessions of which a part was read before, and faults that are shown in them.
 use Rattle.std.proofs.Common.{◌≡◌, Bool, Option, None, Some, inl, refl, subst, sym}
-use Rattle.std.specs.Prelude.{IsTrue}
-use Rattle.std.specs.Io.KnownBytes.{Consumes, prepend_known}
-use Rattle.std.specs.declared.io.Error.{Error}
+use Rattle.std.specs.{Prelude.IsTrue, Io.KnownBytes.Consumes, Io.KnownBytes.prepend_known, declared.io.Error.Error}
 use Rattle.filterset_drawing.specs.Columns.{Text}
-use Rattle.filterset_editor.specs.Frames.{Bytes}
-use Rattle.filterset_editor.specs.Machine.{Says}
-use Rattle.filterset_editor.specs.Sessions.{Served}
-use Rattle.filterset_editor.specs.declared.ending.Ending.{Ending}
+use Rattle.filterset_editor.specs.{Frames.Bytes, Machine.Says, Sessions.Served, declared.ending.Ending.Ending}
 use Rattle.filterset_loading.proofs.FaultLemmas.{OrMemory-weaker}
 use Rattle.filterset_loading.specs.Files.{OrMemory}
+use Rattle.filterset_loading.specs.declared.fault.CommandFault.{CommandFault, TheVariants.Run}
+use Rattle.filterset_loading.specs.declared.workspace.WorkspacePaths.{WorkspacePaths}
 use Rattle.filterset.specs.Serving.{IsRunFault, IsServiceFault, IsStreamFault}
 use Rattle.filterset_json.specs.declared.fault.RunFault.{RunFault}
 use Rattle.filterset_json.specs.declared.fault.RunFault.TheVariants.{Memory, Read, Write}
-use Rattle.filterset_loading.specs.declared.fault.CommandFault.{CommandFault}
-use Rattle.filterset_loading.specs.declared.fault.CommandFault.TheVariants.{Run}
-use Rattle.filterset_loading.specs.declared.workspace.WorkspacePaths.{WorkspacePaths}
 
 -- what is consumed of an opening and the rest is consumed of the whole
 Consumes-whole : (old mid new : Option Bytes) (opening read : Bytes) → Consumes old mid opening

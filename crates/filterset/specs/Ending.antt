@@ -4,12 +4,10 @@ use Rattle.filterset_entries.specs.declared.text.Ending.{Ending}
 use Rattle.filterset_entries.specs.declared.text.Ending.TheVariants.{Fine, Faulty, Differing, Unknown}
 use Rattle.filterset_editor.specs.declared.ending.Ending.{Ending as SessionEnding}
 use Rattle.filterset_editor.specs.declared.ending.Ending.TheVariants.{Exit, InputEnded, Malformed}
-use Rattle.filterset.specs.declared.ending.Ended.{Ended}
-use Rattle.filterset.specs.declared.ending.Ended.TheVariants.{Answered, Served}
+use Rattle.filterset.specs.declared.ending.Ended.{Ended, TheVariants.Answered, TheVariants.Served}
 use Rattle.filterset_loading.specs.declared.fault.CommandFault.{CommandFault}
 use Rattle.filterset_loading.specs.declared.fault.CommandFault.TheVariants.{File, Run, Unwritten}
-use Rattle.filterset_loading.specs.declared.fault.FileFault.{FileFault}
-use Rattle.filterset_loading.specs.declared.fault.FileFault.TheVariants.{Unread}
+use Rattle.filterset_loading.specs.declared.fault.FileFault.{FileFault, TheVariants.Unread}
 
 -- the exit status after a fault of a file: 3 if reading it failed, and 2 if its content is rejected
 abbrev pub file_status : FileFault → ℕ

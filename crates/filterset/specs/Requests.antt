@@ -1,30 +1,21 @@
 -- What is answered to each request.
 use Rattle.std.specs.Prelude.{◌≡◌, ◌⊎◌, ◌<◌, Bool, ℕ, List, Option, codes, map}
-use Rattle.std.specs.Borrow.{Bor}
-use Rattle.std.specs.declared.io.Error.{Error}
-use Rattle.clap.specs.declared.error.kind.ErrorKind.{ErrorKind}
-use Rattle.clap.specs.declared.error.kind.ErrorKind.TheVariants.{DisplayHelp, DisplayVersion}
+use Rattle.std.specs.{Borrow.Bor, declared.io.Error.Error}
+use Rattle.clap.specs.declared.error.kind.ErrorKind.{ErrorKind, TheVariants.DisplayHelp, TheVariants.DisplayVersion}
 use Rattle.filterset_answers.specs.Answers.{FormatsTexts, SimplifiesTexts}
-use Rattle.filterset_entries.specs.Checked.{TextRow}
-use Rattle.filterset_entries.specs.Endings.{ending_of}
-use Rattle.filterset_entries.specs.Entries.{input_rows, numbered_rows}
-use Rattle.filterset_entries.specs.declared.text.Ending.{Ending}
-use Rattle.filterset_entries.specs.declared.text.Ending.TheVariants.{Fine}
-use Rattle.filterset_drawing.specs.Columns.{Text}
-use Rattle.filterset_drawing.specs.declared.source.Source.{Source}
+use Rattle.filterset_entries.specs.{Checked.TextRow, Endings.ending_of, Entries.input_rows, Entries.numbered_rows}
+use Rattle.filterset_entries.specs.declared.text.Ending.{Ending, TheVariants.Fine}
+use Rattle.filterset_drawing.specs.{Columns.Text, declared.source.Source.Source}
 use Rattle.filterset_faults.specs.declared.kind.FiltersetKind.{FiltersetKind}
 use Rattle.filterset_faults.specs.declared.kind.FiltersetKind.TheVariants as kinds
 use Rattle.filterset_json.specs.Runs.{AreLeft}
 use Rattle.filterset_asking.specs.Asking.{AnswersAsked, IsAskedFault}
 use Rattle.filterset_asking.specs.Checking.{AnswersCheck, IsCheckFault}
 use Rattle.filterset_verdicts.specs.Deciding.{AnswersDecision, IsDecisionFault}
-use Rattle.filterset_loading.specs.Files.{content_of, input_name}
-use Rattle.filterset_loading.specs.Words.{IsInputFault, input_count}
-use Rattle.filterset_loading.specs.declared.fault.CommandFault.{CommandFault}
-use Rattle.filterset_loading.specs.declared.request.Request.{Request}
+use Rattle.filterset_loading.specs.{Files.content_of, Files.input_name, Words.IsInputFault, Words.input_count}
+use Rattle.filterset_loading.specs.declared.{fault.CommandFault.CommandFault, request.Request.Request}
 use Rattle.filterset_loading.specs.declared.request.Request.TheVariants.{Ask, Check, Decide, Format, Show, Simplify}
-use Rattle.filterset_loading.specs.declared.request.Texts.{Texts}
-use Rattle.filterset_loading.specs.declared.request.Texts.TheVariants.{Given, StandardInput}
+use Rattle.filterset_loading.specs.declared.request.Texts.{Texts, TheVariants.Given, TheVariants.StandardInput}
 
 -- the text is what standard input had left, as far as that is known, if the request is about that
 abbrev pub IsInput : Request → Option Text → Text → Type 0

@@ -1,26 +1,19 @@
 -- Sessions of editors, with a workspace or without.
 use Rattle.std.specs.Prelude.{◌≡◌, ◌⊎◌, ◌||◌, Bool, IsTrue, false, true, [], Option, None, Some, codes, option_and_then, if◌then◌else◌}
-use Rattle.std.specs.Io.KnownBytes.{Appends}
-use Rattle.std.specs.declared.io.Error.{Error}
-use Rattle.serde_json.specs.Data.{Data, null}
-use Rattle.serde_json.specs.Find.{as_str, get}
+use Rattle.std.specs.{Io.KnownBytes.Appends, declared.io.Error.Error}
+use Rattle.serde_json.specs.{Data.Data, Data.null, Find.as_str, Find.get}
 use Rattle.filterset_drawing.specs.Columns.{Text}
-use Rattle.filterset_editor.specs.Frames.{Bytes}
-use Rattle.filterset_editor.specs.Openings.{IsOpening, shown_data}
-use Rattle.filterset_editor.specs.Sessions.{Served}
-use Rattle.filterset_editor.specs.Written.{Writes}
-use Rattle.filterset_editor.specs.declared.ending.Ending.{Ending}
+use Rattle.filterset_editor.specs.{Frames.Bytes, Openings.IsOpening, Openings.shown_data, Sessions.Served}
+use Rattle.filterset_editor.specs.{Written.Writes, declared.ending.Ending.Ending}
 use Rattle.filterset_json.specs.declared.fault.RunFault.TheVariants.{Read, Write}
 use Rattle.filterset_names.specs.Workspaces.{WorkspaceRow}
 use Rattle.filterset_sources.specs.declared.list.RunIgnored.TheVariants.{All}
 use Rattle.filterset_server.specs.Responses.{says}
 use Rattle.filterset_loading.specs.Workspaces.{IsWorkspaceFault, IsWorkspaceIn}
-use Rattle.filterset_loading.specs.declared.fault.CommandFault.{CommandFault}
-use Rattle.filterset_loading.specs.declared.fault.CommandFault.TheVariants.{Run}
+use Rattle.filterset_loading.specs.declared.fault.CommandFault.{CommandFault, TheVariants.Run}
+use Rattle.filterset_loading.specs.declared.workspace.{Workspace.Workspace, WorkspacePaths.WorkspacePaths}
 use Rattle.filterset.specs.declared.greeting.Named.{Named}
 use Rattle.filterset.specs.declared.greeting.Named.TheVariants as named
-use Rattle.filterset_loading.specs.declared.workspace.Workspace.{Workspace}
-use Rattle.filterset_loading.specs.declared.workspace.WorkspacePaths.{WorkspacePaths}
 
 -- what an editor is told of a workspace
 abbrev pub row_of : Workspace → WorkspaceRow

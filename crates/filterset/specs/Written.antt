@@ -1,11 +1,9 @@
 -- Where answers are written.
 use Rattle.std.specs.Prelude.{◌≡◌, ◌++◌, ◌<◌, Bool, true, false, Option, length}
 use Rattle.std.specs.Io.KnownBytes.{Appends}
-use Rattle.filterset_entries.specs.declared.text.Ending.{Ending}
-use Rattle.filterset_entries.specs.declared.text.Ending.TheVariants.{Faulty}
+use Rattle.filterset_entries.specs.declared.text.Ending.{Ending, TheVariants.Faulty}
 use Rattle.filterset_drawing.specs.Columns.{Text}
-use Rattle.filterset_loading.specs.declared.request.Request.{Request}
-use Rattle.filterset_loading.specs.declared.request.Request.TheVariants.{Check}
+use Rattle.filterset_loading.specs.declared.request.Request.{Request, TheVariants.Check}
 
 -- the answer has faults that keep the command from doing what it is asked for; the faults that `check` finds do not
 abbrev pub is_refusal : Request → Ending → Bool

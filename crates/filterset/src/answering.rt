@@ -1,7 +1,6 @@
 //! The answers to requests.
 ghost use Rattle.std.specs.Prelude.{◌≡◌, ◌<◌, IfErr, IfOk, OnOk, string_bytes};
-ghost use Rattle.filterset_loading.specs.Files.{OrMemory};
-ghost use Rattle.filterset_loading.specs.Words.{IsInputFault, input_count};
+ghost use Rattle.filterset_loading.specs.{Files.OrMemory, Words.IsInputFault, Words.input_count};
 ghost use Rattle.filterset.specs.Requests.{Answers, Faults, IsAnswered, IsFaultOf, IsInput};
 
 use crate::texts::{check_given, format_given, input_file, simplify_given};

@@ -1,7 +1,6 @@
 //! The workspace that an editor names in its `initializationOptions`.
 ghost use Rattle.std.specs.Prelude.{◌≡◌, [], IfOk, None, option_map, string_bytes};
-ghost use Rattle.serde_json.specs.Find.{get};
-ghost use Rattle.serde_json.specs.View.{view};
+ghost use Rattle.serde_json.specs.{Find.get, View.view};
 ghost use Rattle.filterset.specs.Serving as spec;
 ghost use Rattle.filterset.specs.Serving.{Greets, GreetsFrom, IsRunFault, named_row, paths_in, paths_of, row_of};
 

@@ -2,8 +2,7 @@
 ghost use Rattle.std.specs.Prelude.{◌≡◌, ◌||◌, IfErr, IfOk, IsTrue, false, true};
 ghost use Rattle.filterset_drawing.specs.Columns.{Text};
 ghost use Rattle.filterset_loading.specs.Files.{OrMemory};
-ghost use Rattle.filterset.specs.Requests.{IsAnswered, IsFaultOf};
-ghost use Rattle.filterset.specs.Written.{AppendsPart, is_refusal};
+ghost use Rattle.filterset.specs.{Requests.IsAnswered, Requests.IsFaultOf, Written.AppendsPart, Written.is_refusal};
 
 use crate::answering::answer;
 use crate::output::write_text;

@@ -1,8 +1,7 @@
 //! The filtersets to check, to format or to simplify.
 ghost use Rattle.std.specs.Prelude.{◌≡◌, IfErr, IfOk, ℕ, map, string_bytes};
 ghost use Rattle.filterset_answers.specs.Answers.{FormatsTexts, SimplifiesTexts};
-ghost use Rattle.filterset_entries.specs.Checked.{text_row};
-ghost use Rattle.filterset_entries.specs.Endings.{ending_of};
+ghost use Rattle.filterset_entries.specs.{Checked.text_row, Endings.ending_of};
 ghost use Rattle.filterset_asking.specs.Checking.{AnswersCheck, IsCheckFault};
 ghost use Rattle.filterset_loading.specs.Files.{OrMemory};
 ghost use Rattle.filterset.specs.Requests.{IsInputFile, rows_of};

@@ -1,8 +1,7 @@
 -- Lists of texts and of actions.
 use Rattle.std.proofs.Common.{◌≡◌, ◌<◌, ◌+◌, ℕ, zero, suc, List, [], ◌∷◌, ◌++◌, map, get_or, take, length, ap, arith, sym, ◌∙◌, add-one, add-zero}
 use Rattle.std.proofs.lemmas.List.{map-append, take_more}
-use Rattle.std.specs.Borrow.{Bor}
-use Rattle.std.specs.List.{range_with_len}
+use Rattle.std.specs.{Borrow.Bor, List.range_with_len}
 use Rattle.filterset_entries.specs.Checked.{TextRow}
 use Rattle.filterset_documents.specs.Joins.{Joins}
 use Rattle.filterset_documents.proofs.JoinLemmas.{Joins-push, rows_more}

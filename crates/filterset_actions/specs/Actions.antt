@@ -1,37 +1,23 @@
 -- Actions that are offered.
 use Rattle.std.specs.Prelude.{◌≡◌, ◌⊎◌, ◌++◌, ℕ, List, [], ◌∷◌, MatchBool, MatchOption, Option, None, Some, codes, length, slice_get, string_bytes}
-use Rattle.std.specs.List.{range_with_len}
-use Rattle.std.specs.Str.{bytes_eq}
+use Rattle.std.specs.{List.range_with_len, Str.bytes_eq}
 use Rattle.serde_json.specs.Data.{Data, array, string, object, member, no_members}
 use Rattle.serde_json.specs.View.{items_of}
-use Rattle.filterset_entries.specs.Checked.{TextRow}
-use Rattle.filterset_entries.specs.Placements.{Placement}
-use Rattle.filterset_documents.specs.Contents.{ContentRow}
+use Rattle.filterset_entries.specs.{Checked.TextRow, Placements.Placement}
+use Rattle.filterset_documents.specs.{Contents.ContentRow, Diagnostics.IsRemarkAt, Diagnostics.fault_span}
+use Rattle.filterset_documents.specs.{Edits.edit_data, Filtersets.stretch_at, Filtersets.stretch_span, Joins.Joins}
+use Rattle.filterset_documents.specs.Ranges.{range_data}
 use Rattle.filterset_drawing.specs.Remarks.{fault_remark}
 use Rattle.filterset_faults.specs.Faults.{span_of}
-use Rattle.filterset_documents.specs.Diagnostics.{IsRemarkAt, fault_span}
-use Rattle.filterset_documents.specs.Edits.{edit_data}
-use Rattle.filterset_documents.specs.Filtersets.{stretch_at, stretch_span}
-use Rattle.filterset_documents.specs.Joins.{Joins}
-use Rattle.filterset_documents.specs.Ranges.{range_data}
+use Rattle.filterset_faults.specs.declared.{error.ParseSingleError.ParseSingleError, span.SourceSpan.SourceSpan}
 use Rattle.filterset_editor.specs.Positions.{IsOffset, Text}
-use Rattle.filterset_editor.specs.declared.edits.Change.{Change}
-use Rattle.filterset_editor.specs.declared.positions.Encoding.{Encoding}
-use Rattle.filterset_editor.specs.declared.positions.Range.{Range}
-use Rattle.filterset_faults.specs.declared.error.ParseSingleError.{ParseSingleError}
-use Rattle.filterset_faults.specs.declared.span.SourceSpan.{SourceSpan}
-use Rattle.filterset_grammar.specs.Printing.{printed}
-use Rattle.filterset_grammar.specs.Tree.{Tree}
+use Rattle.filterset_editor.specs.declared.{edits.Change.Change, positions.Encoding.Encoding, positions.Range.Range}
+use Rattle.filterset_grammar.specs.{Printing.printed, Tree.Tree}
 use Rattle.filterset_language.specs.Parsed.{IsUnreadWith}
-use Rattle.filterset_rewriting.specs.Nesting.Depth.{IsTooDeep, most_levels}
-use Rattle.filterset_rewriting.specs.Reading.{IsRead}
-use Rattle.filterset_rewriting.specs.Showing.{shown}
-use Rattle.filterset_actions.specs.Changes.{IsChosen}
-use Rattle.filterset_actions.specs.Mending.{IsMending}
+use Rattle.filterset_rewriting.specs.{Nesting.Depth.IsTooDeep, Nesting.Depth.most_levels, Reading.IsRead, Showing.shown}
+use Rattle.filterset_actions.specs.{Changes.IsChosen, Mending.IsMending}
 use Rattle.filterset_actions.specs.Proposals.{IsRepairIn, ProposalRow, rewrite_row}
-use Rattle.filterset_actions.specs.Repairs.{RepairRow}
-use Rattle.filterset_actions.specs.Spelling.{IsSpelled}
-use Rattle.filterset_actions.specs.Subjects.{SubjectRow, meets}
+use Rattle.filterset_actions.specs.{Repairs.RepairRow, Spelling.IsSpelled, Subjects.SubjectRow, Subjects.meets}
 
 -- ---- values
 

@@ -1,21 +1,14 @@
 -- Changes of files that give a filterset a new text, and change no other.
 use Rattle.std.specs.Prelude.{◌≡◌, ℕ, Bool, true, false, List, [], ◌∷◌, MatchOption, Option, None, Some, chars, map, slice_set, string_bytes}
-use Rattle.std.specs.Bool.{then_some}
-use Rattle.std.specs.List.{flat_map}
+use Rattle.std.specs.{Bool.then_some, List.flat_map}
 use Rattle.filterset_entries.specs.Checked.{TextRow}
 use Rattle.filterset_entries.specs.Placements.{TextSpot, line, literal, span_in}
-use Rattle.filterset_documents.specs.Contents.{Becomes}
-use Rattle.filterset_documents.specs.Edits.{basic_char, quoted}
-use Rattle.filterset_documents.specs.Filtersets.{stretch_span}
+use Rattle.filterset_documents.specs.{Contents.Becomes, Edits.basic_char, Edits.quoted, Filtersets.stretch_span}
 use Rattle.filterset_documents.specs.Ranges.{IsRangeOf}
-use Rattle.filterset_editor.specs.Edits.{AreChanged}
-use Rattle.filterset_editor.specs.Positions.{Text}
-use Rattle.filterset_editor.specs.declared.edits.Change.{Change}
-use Rattle.filterset_editor.specs.declared.positions.Range.{Range}
-use Rattle.filterset_faults.specs.declared.error.ParseSingleError.{ParseSingleError}
-use Rattle.filterset_faults.specs.declared.span.SourceSpan.{SourceSpan}
-use Rattle.filterset_actions.specs.Proposals.{ProposalRow}
-use Rattle.filterset_actions.specs.Subjects.{SubjectRow}
+use Rattle.filterset_editor.specs.{Edits.AreChanged, Positions.Text}
+use Rattle.filterset_editor.specs.declared.{edits.Change.Change, positions.Range.Range}
+use Rattle.filterset_faults.specs.declared.{error.ParseSingleError.ParseSingleError, span.SourceSpan.SourceSpan}
+use Rattle.filterset_actions.specs.{Proposals.ProposalRow, Subjects.SubjectRow}
 
 -- ---- what is written
 

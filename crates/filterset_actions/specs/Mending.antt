@@ -1,20 +1,14 @@
 -- Texts with edits, and whether these mend them.
 use Rattle.std.specs.Prelude.{◌≡◌, ◌⊎◌, ◌≤◌, ◌-◌, ◌++◌, ◌&&◌, ℕ, Bool, true, false, List, MatchOption, Option, None, Some, drop, length, nat_le, nat_lt, not, take}
-use Rattle.std.specs.Bool.{then_some}
-use Rattle.std.specs.List.{list_any}
-use Rattle.std.specs.Option.{option_map_or}
-use Rattle.std.specs.Str.{IsCharBoundary}
+use Rattle.std.specs.{Bool.then_some, List.list_any, Option.option_map_or, Str.IsCharBoundary}
 use Rattle.filterset_documents.specs.Edits.{EditRow}
 use Rattle.filterset_editor.specs.Positions.{Text}
-use Rattle.filterset_faults.specs.Faults.{span_of}
-use Rattle.filterset_faults.specs.Span.{offset_of}
-use Rattle.filterset_faults.specs.declared.error.ParseSingleError.{ParseSingleError}
-use Rattle.filterset_faults.specs.declared.span.SourceSpan.{SourceSpan}
+use Rattle.filterset_faults.specs.{Faults.span_of, Span.offset_of}
+use Rattle.filterset_faults.specs.declared.{error.ParseSingleError.ParseSingleError, span.SourceSpan.SourceSpan}
 use Rattle.filterset_grammar.specs.Tree.{Tree}
 use Rattle.filterset_language.specs.Parsed.{IsUnreadWith}
 use Rattle.filterset_configuration.specs.declared.stretch.Stretch.{Stretch}
-use Rattle.filterset_rewriting.specs.Nesting.Depth.{IsTooDeep, most_levels}
-use Rattle.filterset_rewriting.specs.Reading.{IsRead}
+use Rattle.filterset_rewriting.specs.{Nesting.Depth.IsTooDeep, Nesting.Depth.most_levels, Reading.IsRead}
 
 -- ---- texts with edits
 

@@ -3,11 +3,9 @@ use Rattle.std.specs.Prelude.{◌≡◌, MatchBool, Option, None, Some, length}
 use Rattle.filterset_entries.specs.Placements.{Placement}
 use Rattle.filterset_documents.specs.Diagnostics.{fault_span}
 use Rattle.filterset_editor.specs.Positions.{Text}
-use Rattle.filterset_faults.specs.Faults.{span_of}
-use Rattle.filterset_faults.specs.declared.error.ParseSingleError.{ParseSingleError}
+use Rattle.filterset_faults.specs.{Faults.span_of, declared.error.ParseSingleError.ParseSingleError}
 use Rattle.filterset_actions.specs.Repairs.{IsRepairOf, RepairRow, repair_row}
-use Rattle.filterset_actions.specs.Subjects.{SubjectRow, meets}
-use Rattle.filterset_actions.specs.declared.proposals.Proposal.{Proposal}
+use Rattle.filterset_actions.specs.{Subjects.SubjectRow, Subjects.meets, declared.proposals.Proposal.Proposal}
 
 -- an edit of a filterset's text, and the fault that it mends; without one it writes the whole filterset anew
 pub record ProposalRow : Type 0 where

@@ -5,11 +5,9 @@ use Rattle.filterset_documents.specs.Edits.{EditRow, edit_row}
 use Rattle.filterset_drawing.specs.Lines.{from_of, to_of}
 use Rattle.filterset_editor.specs.Positions.{Text}
 use Rattle.filterset_faults.specs.Span.{offset_of, span}
-use Rattle.filterset_faults.specs.declared.error.ParseSingleError.{ParseSingleError}
+use Rattle.filterset_faults.specs.declared.{error.ParseSingleError.ParseSingleError, span.SourceSpan.SourceSpan}
 use Rattle.filterset_faults.specs.declared.error.ParseSingleError.TheVariants as faults
-use Rattle.filterset_faults.specs.declared.span.SourceSpan.{SourceSpan}
-use Rattle.filterset_grammar.specs.Printing.{printed}
-use Rattle.filterset_grammar.specs.Tree.{Tree}
+use Rattle.filterset_grammar.specs.{Printing.printed, Tree.Tree}
 use Rattle.filterset_configuration.specs.declared.stretch.Stretch.{Stretch}
 use Rattle.filterset_rewriting.specs.Calls.{IsCall, NoCall}
 use Rattle.filterset_actions.specs.declared.repairs.Repair.{Repair}

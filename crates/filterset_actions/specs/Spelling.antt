@@ -2,9 +2,7 @@
 use Rattle.std.specs.Prelude.{◌≡◌, ◌&&◌, MatchBool, nat_lt}
 use Rattle.filterset_editor.specs.Positions.{Text}
 use Rattle.filterset_faults.specs.declared.span.SourceSpan.{SourceSpan}
-use Rattle.filterset_grammar.specs.AddedParens.{IsWithParens}
-use Rattle.filterset_grammar.specs.Printing.{printed}
-use Rattle.filterset_grammar.specs.Tree.{Tree}
+use Rattle.filterset_grammar.specs.{AddedParens.IsWithParens, Printing.printed, Tree.Tree}
 use Rattle.filterset_rewriting.specs.Spelling.{caret_count, spelled_out}
 
 -- the text of a tree without `^`, if it has one to eight of them, and else as it prints

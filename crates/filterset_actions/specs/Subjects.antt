@@ -1,10 +1,8 @@
 -- The document whose filtersets may be changed.
 use Rattle.std.specs.Prelude.{◌-◌, ◌&&◌, ℕ, Bool, nat_le}
 use Rattle.filterset_documents.specs.Contents.{ContentRow, content_row}
-use Rattle.filterset_editor.specs.Positions.{Text}
-use Rattle.filterset_editor.specs.declared.positions.Encoding.{Encoding}
-use Rattle.filterset_faults.specs.Span.{length_of, offset_of}
-use Rattle.filterset_faults.specs.declared.span.SourceSpan.{SourceSpan}
+use Rattle.filterset_editor.specs.{Positions.Text, declared.positions.Encoding.Encoding}
+use Rattle.filterset_faults.specs.{Span.length_of, Span.offset_of, declared.span.SourceSpan.SourceSpan}
 use Rattle.filterset_actions.specs.declared.subject.Subject.{Subject}
 
 -- a document with its address, what it holds, and the offsets between which it is asked about

@@ -1,14 +1,11 @@
 //! The actions for the filtersets of a document.
 ghost use Rattle.std.specs.Prelude.{◌<◌, IfOk, length, map, string_bytes};
 ghost use Rattle.serde_json.specs.View.{view};
-ghost use Rattle.filterset_entries.specs.Checked.{text_row};
-ghost use Rattle.filterset_entries.specs.Placements.{placement_of};
-ghost use Rattle.filterset_documents.specs.Joins.{Joins};
+ghost use Rattle.filterset_entries.specs.{Checked.text_row, Placements.placement_of};
+ghost use Rattle.filterset_documents.specs.{Joins.Joins, Contents.content_row};
 ghost use Rattle.filterset_language.specs.Views.{tree_of};
-ghost use Rattle.filterset_documents.specs.Contents.{content_row};
 ghost use Rattle.filterset_actions.specs.Actions.{ActsOn, AreActions, FaultActions, NewActions, ProposalActions, RangeActions, RewriteActions, RowActions, TextActions, TreeActions};
-ghost use Rattle.filterset_actions.specs.Proposals.{proposal_row};
-ghost use Rattle.filterset_actions.specs.Subjects.{subject_row};
+ghost use Rattle.filterset_actions.specs.{Proposals.proposal_row, Subjects.subject_row};
 
 use crate::changes::choose_change;
 use crate::mending::mend;

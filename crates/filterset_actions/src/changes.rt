@@ -1,10 +1,8 @@
 //! Whether a change of a file gives a filterset a new text, and changes no other.
 ghost use Rattle.std.specs.Prelude.{◌≡◌, ◌<◌, IfOk, length, map, slice_set};
-ghost use Rattle.filterset_entries.specs.Checked.{text_row};
-ghost use Rattle.filterset_entries.specs.Placements.{spot_of};
+ghost use Rattle.filterset_entries.specs.{Checked.text_row, Placements.spot_of};
 ghost use Rattle.filterset_actions.specs.Changes.{Gets, IsChosen, IsTried, texts_of};
-ghost use Rattle.filterset_actions.specs.Proposals.{proposal_row};
-ghost use Rattle.filterset_actions.specs.Subjects.{subject_row};
+ghost use Rattle.filterset_actions.specs.{Proposals.proposal_row, Subjects.subject_row};
 
 use crate::edits::change_for;
 use crate::proposals::Proposal;

@@ -2,8 +2,7 @@
 ghost use Rattle.std.specs.Prelude.{◌≡◌, IfOk, Some, string_bytes};
 ghost use Rattle.filterset_entries.specs.Placements.{spot_of};
 ghost use Rattle.filterset_actions.specs.Changes.{IsChangeFor, changed_span, changed_text};
-ghost use Rattle.filterset_actions.specs.Proposals.{proposal_row};
-ghost use Rattle.filterset_actions.specs.Subjects.{subject_row};
+ghost use Rattle.filterset_actions.specs.{Proposals.proposal_row, Subjects.subject_row};
 
 use crate::proposals::Proposal;
 use crate::subject::Subject;

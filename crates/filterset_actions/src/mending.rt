@@ -1,6 +1,5 @@
 //! Texts with edits, and whether these mend them.
-ghost use Rattle.std.specs.Prelude.{◌≡◌, IfOk, option_map, string_bytes};
-ghost use Rattle.std.specs.List.{list_any};
+ghost use Rattle.std.specs.{Prelude.◌≡◌, Prelude.IfOk, Prelude.option_map, Prelude.string_bytes, List.list_any};
 ghost use Rattle.filterset_documents.specs.Edits.{edit_row};
 ghost use Rattle.filterset_actions.specs.Mending.{IsApplied, IsClear, IsMending, begins_in};
 

@@ -2,8 +2,7 @@
 ghost use Rattle.std.specs.Prelude.{◌≡◌, IfOk, option_map};
 ghost use Rattle.filterset_entries.specs.Placements.{placement_of};
 ghost use Rattle.filterset_actions.specs.Proposals.{IsRepairIn, proposal_row, rewrite_row};
-ghost use Rattle.filterset_actions.specs.Repairs.{repair_row};
-ghost use Rattle.filterset_actions.specs.Subjects.{subject_row};
+ghost use Rattle.filterset_actions.specs.{Repairs.repair_row, Subjects.subject_row};
 
 use crate::repairs::{Repair, repair_of};
 use crate::subject::{Subject, meets};

@@ -1,15 +1,12 @@
 //! The values of actions.
 ghost use Rattle.std.specs.Prelude.{◌≡◌, ◌∷◌, [], IfOk, Some, map};
-ghost use Rattle.serde_json.specs.Data.{Data};
-ghost use Rattle.serde_json.specs.View.{view};
+ghost use Rattle.serde_json.specs.{Data.Data, View.view};
 ghost use Rattle.filterset_entries.specs.Placements.{placement_of};
-ghost use Rattle.filterset_documents.specs.Edits.{edit_data};
-ghost use Rattle.filterset_documents.specs.Ranges.{range_data};
+ghost use Rattle.filterset_documents.specs.{Edits.edit_data, Ranges.range_data};
 ghost use Rattle.filterset_editor.specs.declared.positions.Range.{Range};
 ghost use Rattle.filterset_actions.specs.Actions as spec;
 ghost use Rattle.filterset_actions.specs.Actions.{AreMended, IsAction, action_data, changes_data};
-ghost use Rattle.filterset_actions.specs.Proposals.{proposal_row};
-ghost use Rattle.filterset_actions.specs.Subjects.{subject_row};
+ghost use Rattle.filterset_actions.specs.{Proposals.proposal_row, Subjects.subject_row};
 
 use crate::proposals::Proposal;
 use crate::subject::Subject;

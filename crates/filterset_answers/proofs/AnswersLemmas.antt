@@ -2,20 +2,18 @@
 use Rattle.std.proofs.Common.{◌≡◌, ◌≢◌, ℕ, suc, Bool, add-zero, arith, ◌+◌, ◌<◌, ◌≤◌, List, [], ◌∷◌, ◌++◌, length, map, take, ◌∙◌, sym, ap, subst, append_assoc, refl, true, false}
 use Rattle.std.proofs.Math.Dec.{eqb-suc-zero}
 use Rattle.std.proofs.lemmas.List.{append-nil, length-map, length-take-le}
+use Rattle.std.specs.Prelude.{◌==◌, if◌then◌else◌}
 use Rattle.filterset_json.specs.Pieces.{Pieces}
 use Rattle.filterset_json.proofs.PieceLemmas.{Pieces-push}
-use Rattle.filterset_drawing.specs.Columns.{Text}
-use Rattle.filterset_drawing.specs.Remarks.{RemarkRow, fault_remark}
-use Rattle.std.specs.Prelude.{◌==◌, if◌then◌else◌}
+use Rattle.filterset_drawing.specs.{Columns.Text, Remarks.RemarkRow, Remarks.fault_remark}
 use Rattle.filterset_faults.specs.declared.error.ParseSingleError.{ParseSingleError}
 use Rattle.filterset_answers.specs.Answers.{FaultsOf, no_texts, next_text, RewritesTexts, FormattedLine, FormattedPart, TextFaults, has_some}
-use Rattle.filterset_entries.specs.Checked.{HasReadingFaults, TextRow, all_remarks}
-use Rattle.filterset_rewriting.specs.Reading.{IsUnreadFor}
-use Rattle.filterset_rewriting.specs.declared.reading.TextRefusal.{TextRefusal}
-use Rattle.filterset_rewriting.specs.declared.reading.TextRefusal.TheVariants.{Found, TooDeep}
-use mir.Val.{bool_byte}
 use Rattle.filterset_answers.specs.declared.formatting.Rewriting.{Rewriting}
+use Rattle.filterset_entries.specs.Checked.{HasReadingFaults, TextRow, all_remarks}
 use Rattle.filterset_entries.specs.declared.form.Form.{Form}
+use Rattle.filterset_rewriting.specs.Reading.{IsUnreadFor}
+use Rattle.filterset_rewriting.specs.declared.reading.TextRefusal.{TextRefusal, TheVariants.Found, TheVariants.TooDeep}
+use mir.Val.{bool_byte}
 
 -- one if so, and else none
 abbrev pub one_if : Bool → ℕ

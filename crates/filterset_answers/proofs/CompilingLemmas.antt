@@ -3,27 +3,21 @@ use Rattle.std.proofs.Common.{◌≡◌, ◌≢◌, ℕ, arith, ◌+◌, List, [
 use Rattle.std.specs.Prelude.{Option, Some, None, is_none, option_map, option_to_list, if◌then◌else◌}
 use Rattle.std.specs.List.{AllZip, cons_option, filter_map}
 use Rattle.filterset_json.specs.Pieces.{no_pieces}
-use Rattle.filterset_drawing.specs.Columns.{Text}
-use Rattle.filterset_drawing.specs.Remarks.{RemarkRow}
-use Rattle.filterset_rewriting.specs.declared.reading.TextRefusal.{TextRefusal}
-use Rattle.filterset_rewriting.specs.declared.reading.TextRefusal.TheVariants.{Found, TooDeep}
-use Rattle.filterset_faults.specs.declared.error.ParseSingleError.{ParseSingleError}
-use Rattle.filterset_faults.specs.declared.kind.FiltersetKind.{FiltersetKind}
+use Rattle.filterset_drawing.specs.{Columns.Text, Remarks.RemarkRow}
+use Rattle.filterset_rewriting.specs.declared.reading.TextRefusal.{TextRefusal, TheVariants.Found, TheVariants.TooDeep}
+use Rattle.filterset_faults.specs.declared.{error.ParseSingleError.ParseSingleError, kind.FiltersetKind.FiltersetKind}
 use Rattle.filterset_graph.specs.declared.package.PackageMetadata.{PackageMetadata}
 use Rattle.filterset_language.specs.Views.{tree_of}
 use Rattle.nextest_filtering.specs.Compiling.{IsRefusedWith, found, rejected, banned, unmatched, packages_of}
-use Rattle.nextest_filtering.specs.declared.compile.context.KnownGroups.{KnownGroups}
-use Rattle.nextest_filtering.specs.declared.filterset.Filterset.{Filterset}
+use Rattle.nextest_filtering.specs.declared.{compile.context.KnownGroups.KnownGroups, filterset.Filterset.Filterset}
 use Rattle.filterset_answers.specs.Answers.{FaultsOf, TextFaults, has_some, no_texts}
-use Rattle.filterset_entries.specs.Checked.{IsRefusedFor, all_remarks, HasRefusal, TextRow, text_row}
 use Rattle.filterset_answers.specs.Compiled.{Compiles, HasMade, IsFilter, IsLogOf, IsMade, IsParsedAs}
-use Rattle.filterset_entries.specs.Entries.{filter_row}
-use Rattle.filterset_answers.specs.declared.compiling.Compiler.{Compiler}
-use Rattle.filterset_answers.specs.declared.compiling.FaultLog.{FaultLog}
-use Rattle.filterset_entries.specs.declared.setting.OverrideEntry.{OverrideEntry}
-use Rattle.filterset_entries.specs.declared.text.TextEntry.{TextEntry}
-use Rattle.filterset_entries.proofs.RowsLemmas.{AllZip-push}
+use Rattle.filterset_answers.specs.declared.compiling.{Compiler.Compiler, FaultLog.FaultLog}
 use Rattle.filterset_answers.proofs.AnswersLemmas.{FaultsOf-push, one_if, some_is}
+use Rattle.filterset_entries.specs.Checked.{IsRefusedFor, all_remarks, HasRefusal, TextRow, text_row}
+use Rattle.filterset_entries.specs.Entries.{filter_row}
+use Rattle.filterset_entries.specs.declared.{setting.OverrideEntry.OverrideEntry, text.TextEntry.TextEntry}
+use Rattle.filterset_entries.proofs.RowsLemmas.{AllZip-push}
 
 -- the faults that refuse a text are some
 refusal_some : (text : Text) (kind : FiltersetKind) (packages : List PackageMetadata) (groups : KnownGroups) (faults : List ParseSingleError)

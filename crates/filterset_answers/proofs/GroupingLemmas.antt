@@ -1,16 +1,11 @@
 -- Overrides with what their filters are compiled to.
 use Rattle.std.proofs.Common.{◌≡◌, ℕ, zero, suc, ◌<◌, arith, List, [], ◌∷◌, Option, Some, None, get_or, length, refl, subst, sym}
-use Rattle.std.specs.List.{AllZip}
-use Rattle.std.specs.Prelude.{option_map}
-use Rattle.std.specs.Borrow.{Bor}
-use Rattle.filterset_expression.specs.Meaning.{IsCompiled}
-use Rattle.filterset_expression.specs.declared.expression.CompiledExpr.{CompiledExpr}
+use Rattle.std.specs.{List.AllZip, Prelude.option_map, Borrow.Bor}
+use Rattle.filterset_expression.specs.{Meaning.IsCompiled, declared.expression.CompiledExpr.CompiledExpr}
 use Rattle.filterset_language.specs.Views.{tree_of}
 use Rattle.nextest_filtering.specs.declared.filterset.Filterset.{Filterset}
-use Rattle.filterset_answers.specs.Compiled.{IsCompiledText, IsFilterFor}
-use Rattle.filterset_answers.specs.Picking.{compiled_of}
-use Rattle.filterset_entries.specs.declared.setting.OverrideEntry.{OverrideEntry}
-use Rattle.filterset_entries.specs.declared.setting.Setting.{Setting}
+use Rattle.filterset_answers.specs.{Compiled.IsCompiledText, Compiled.IsFilterFor, Picking.compiled_of}
+use Rattle.filterset_entries.specs.declared.setting.{OverrideEntry.OverrideEntry, Setting.Setting}
 use Rattle.filterset_entries.specs.declared.text.TextEntry.{TextEntry}
 
 -- the expression of a filter is what its text is compiled to

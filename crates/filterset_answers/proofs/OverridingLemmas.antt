@@ -1,28 +1,21 @@
 -- Overrides as tests are asked about them, and why their filters pick a test or not.
 use Rattle.std.proofs.Common.{◌≡◌, All, List, [], ◌∷◌, Option, Some, None, String, Global, ap, filter, map, refl, string_bytes, subst, sym}
-use Rattle.std.specs.Prelude.{MatchOption, cond, is_some, option_map}
-use Rattle.std.specs.Borrow.{Bor}
-use Rattle.std.specs.List.{AllZip}
+use Rattle.std.specs.{Prelude.MatchOption, Prelude.cond, Prelude.is_some, Prelude.option_map, Borrow.Bor, List.AllZip}
 use Rattle.std.proofs.lemmas.List.Elements.{All-cons, All-nil}
 use Rattle.filterset_drawing.specs.Columns.{Text}
 use Rattle.filterset_expression.specs.Meaning.{IsCompiled}
-use Rattle.filterset_expression.specs.declared.expression.CompiledExpr.{CompiledExpr}
-use Rattle.filterset_expression.specs.declared.query.TestQuery.{TestQuery}
+use Rattle.filterset_expression.specs.declared.{expression.CompiledExpr.CompiledExpr, query.TestQuery.TestQuery}
 use Rattle.filterset_faults.specs.declared.span.SourceSpan.{SourceSpan}
 use Rattle.filterset_grammar.specs.Tree.{Tree}
 use Rattle.filterset_language.specs.Views.{tree_of}
-use Rattle.filterset_listing.specs.Explaining.{IsExplanation}
-use Rattle.filterset_listing.specs.ExplanationText.{explanation_text}
-use Rattle.filterset_listing.specs.declared.explaining.Explanation.{Explanation}
-use Rattle.filterset_listing.specs.declared.explaining.candidate.Candidate.TheVariants.{Test}
+use Rattle.filterset_listing.specs.{Explaining.IsExplanation, ExplanationText.explanation_text}
+use Rattle.filterset_listing.specs.declared.explaining.{Explanation.Explanation, candidate.Candidate.TheVariants.Test}
 use Rattle.filterset_listing.specs.declared.groups.GroupOverride.{GroupOverride}
-use Rattle.filterset_overrides.specs.Applying.{IsCompiledOf}
-use Rattle.filterset_overrides.specs.declared.asked.AskedOverride.{AskedOverride}
+use Rattle.filterset_overrides.specs.{Applying.IsCompiledOf, declared.asked.AskedOverride.AskedOverride}
 use Rattle.nextest_filtering.specs.declared.filterset.Filterset.{Filterset}
 use Rattle.filterset_answers.specs.Compiled.{IsAskedFor, IsCompiledText, IsFilterFor, IsOverrideFor, sets_group}
 use Rattle.filterset_answers.specs.Overriding.{IsReason, IsReasonFor}
-use Rattle.filterset_entries.specs.declared.setting.OverrideEntry.{OverrideEntry}
-use Rattle.filterset_entries.specs.declared.setting.Setting.{Setting}
+use Rattle.filterset_entries.specs.declared.setting.{OverrideEntry.OverrideEntry, Setting.Setting}
 use Rattle.filterset_entries.specs.declared.text.TextEntry.{TextEntry}
 
 -- what a text is compiled to is compiled from a tree

@@ -1,8 +1,7 @@
 -- What the texts of a question are as filtersets.
 use Rattle.std.proofs.Common.{◌≡◌, List, [], ◌∷◌, arith, filter, get_or, length, map, subst, sym}
 use Rattle.std.specs.List.{AllZip}
-use Rattle.filterset_expression.specs.Expression.{formula}
-use Rattle.filterset_expression.specs.Formula.{SameShape}
+use Rattle.filterset_expression.specs.{Expression.formula, Formula.SameShape}
 use Rattle.filterset_expression.specs.Meaning.{IsCompiled, IsCompiledLeaf, tree_formula}
 use Rattle.filterset_expression.specs.declared.expression.CompiledExpr.{CompiledExpr}
 use Rattle.filterset_faults.specs.declared.span.SourceSpan.{SourceSpan}
@@ -10,13 +9,11 @@ use Rattle.filterset_grammar.specs.Tree.{Tree}
 use Rattle.filterset_graph.specs.declared.package.PackageMetadata.{PackageMetadata}
 use Rattle.filterset_language.specs.Views.{tree_of}
 use Rattle.filterset_listing.specs.declared.groups.GroupOverride.{GroupOverride}
-use Rattle.nextest_filtering.specs.declared.compile.context.KnownGroups.{KnownGroups}
-use Rattle.nextest_filtering.specs.declared.filterset.Filterset.{Filterset}
-use Rattle.filterset_entries.specs.Checked.{IsFiltersetFor, TextRow}
+use Rattle.nextest_filtering.specs.declared.{compile.context.KnownGroups.KnownGroups, filterset.Filterset.Filterset}
+use Rattle.filterset_entries.specs.{Checked.IsFiltersetFor, Checked.TextRow, declared.setting.Setting.Setting}
 use Rattle.filterset_answers.specs.Compiled.{AreFiltersets, Basis, IsOverrideFor, IsTreeOf, sets_group}
 use Rattle.filterset_answers.specs.Picking.{compiled_of, parsed_of}
 use Rattle.filterset_answers.specs.declared.compiling.QuestionFiltersets.{QuestionFiltersets}
-use Rattle.filterset_entries.specs.declared.setting.Setting.{Setting}
 
 -- the setting, as it was compiled
 abbrev pub basis_of : (setting : Setting) (rows : List TextRow) (made : QuestionFiltersets) (overrides : List GroupOverride)

@@ -1,20 +1,14 @@
 -- What `check` and `format` write about texts.
 use Rattle.std.specs.Prelude.{◌≡◌, ◌≢◌, ◌==◌, ◌++◌, Bool, true, false, ℕ, suc, ◌+◌, List, [], ◌∷◌, codes, decimal, length, if◌then◌else◌}
-use Rattle.filterset_drawing.specs.Columns.{Text}
-use Rattle.filterset_drawing.specs.Remarks.{RemarkRow}
+use Rattle.filterset_drawing.specs.{Columns.Text, Remarks.RemarkRow}
 use Rattle.filterset_faults.specs.declared.span.SourceSpan.{SourceSpan}
-use Rattle.filterset_grammar.specs.Printing.{printed}
-use Rattle.filterset_grammar.specs.Tree.{Tree}
+use Rattle.filterset_grammar.specs.{Printing.printed, Tree.Tree}
 use Rattle.filterset_json.specs.Pieces.{Pieces}
-use Rattle.filterset_entries.specs.Checked.{HasFaults, HasReadingFaults, TextRow}
-use Rattle.filterset_entries.specs.Forms.{FaultPieces}
-use Rattle.filterset_entries.specs.declared.form.Form.{Form}
-use Rattle.filterset_entries.specs.declared.form.Form.TheVariants.{Drawn}
+use Rattle.filterset_entries.specs.{Checked.HasFaults, Checked.HasReadingFaults, Checked.TextRow, Forms.FaultPieces}
+use Rattle.filterset_entries.specs.declared.{form.Form.Form, form.Form.TheVariants.Drawn, names.Names.Names}
 use Rattle.filterset_answers.specs.declared.formatting.Rewriting.{Rewriting}
 use Rattle.filterset_answers.specs.declared.formatting.Rewriting.TheVariants.{Printed, Simplified}
-use Rattle.filterset_entries.specs.declared.names.Names.{Names}
-use Rattle.filterset_rewriting.specs.Reading.{IsRead}
-use Rattle.filterset_rewriting.specs.Simplifying.Simplified.{IsSimplified}
+use Rattle.filterset_rewriting.specs.{Reading.IsRead, Simplifying.Simplified.IsSimplified}
 
 -- ---- faults
 

@@ -1,8 +1,7 @@
 -- What filtersets are asked about the test binaries of nextest's list.
 use Rattle.std.specs.Prelude.{◌≡◌, Bool, true, false, string_bytes}
 use Rattle.filterset_listing.specs.declared.binary.AskedBinary.{AskedBinary}
-use Rattle.filterset_sources.specs.declared.list.Suite.{Suite}
-use Rattle.filterset_sources.specs.declared.list.SuiteStatus.{SuiteStatus}
+use Rattle.filterset_sources.specs.declared.list.{Suite.Suite, SuiteStatus.SuiteStatus}
 use Rattle.filterset_sources.specs.declared.list.SuiteStatus.TheVariants.{Listed, Skipped}
 
 abbrev pub is_skipped : SuiteStatus → Bool

@@ -1,34 +1,24 @@
 -- Which filtersets texts spell, or which faults they have.
 use Rattle.std.specs.Prelude.{◌≡◌, ◌≢◌, ◌⊎◌, ◌++◌, ℕ, List, [], filter, length, Bool, true, false, Option, Some, None, is_some, option_map, string_bytes}
-use Rattle.std.specs.Borrow.{Bor}
-use Rattle.std.specs.List.{AllZip}
+use Rattle.std.specs.{Borrow.Bor, List.AllZip}
 use Rattle.filterset_drawing.specs.Columns.{Text}
-use Rattle.filterset_expression.specs.Meaning.{IsCompiled}
-use Rattle.filterset_expression.specs.declared.expression.CompiledExpr.{CompiledExpr}
+use Rattle.filterset_expression.specs.{Meaning.IsCompiled, declared.expression.CompiledExpr.CompiledExpr}
 use Rattle.filterset_faults.specs.declared.span.SourceSpan.{SourceSpan}
 use Rattle.filterset_graph.specs.declared.package.PackageMetadata.{PackageMetadata}
 use Rattle.filterset_grammar.specs.Tree.{Tree}
 use Rattle.filterset_listing.specs.declared.groups.GroupOverride.{GroupOverride}
 use Rattle.filterset_overrides.specs.declared.asked.AskedOverride.{AskedOverride}
 use Rattle.nextest_filtering.specs.Compiling.{packages_of}
-use Rattle.nextest_filtering.specs.declared.compile.context.KnownGroups.{KnownGroups}
-use Rattle.nextest_filtering.specs.declared.filterset.Filterset.{Filterset}
+use Rattle.nextest_filtering.specs.declared.{compile.context.KnownGroups.KnownGroups, filterset.Filterset.Filterset}
 use Rattle.filterset_rewriting.specs.declared.reading.TextRefusal.{TextRefusal}
 use Rattle.filterset_answers.specs.Answers.{FaultsOf}
+use Rattle.filterset_answers.specs.declared.compiling.{CompiledTexts.CompiledTexts, Compiler.Compiler}
+use Rattle.filterset_answers.specs.declared.compiling.{FaultLog.FaultLog, QuestionFiltersets.QuestionFiltersets}
 use Rattle.filterset_entries.specs.Checked.{HasRefusal, IsAccepted, IsFiltersetFor, IsRefusedFor, TextRow, all_remarks, text_row}
-use Rattle.filterset_entries.specs.Entries.{setting_rows}
-use Rattle.filterset_entries.specs.Forms.{FaultPieces}
-use Rattle.filterset_answers.specs.declared.compiling.CompiledTexts.{CompiledTexts}
+use Rattle.filterset_entries.specs.{Entries.setting_rows, Forms.FaultPieces, declared.form.Form.Form}
+use Rattle.filterset_entries.specs.declared.setting.{OverrideEntry.OverrideEntry, Setting.Setting}
+use Rattle.filterset_entries.specs.declared.text.{Ending.Ending, Ending.TheVariants.Faulty, TextEntry.TextEntry}
 use Rattle.filterset_answers.specs.declared.compiling.CompiledTexts.TheVariants as texts
-use Rattle.filterset_answers.specs.declared.compiling.Compiler.{Compiler}
-use Rattle.filterset_answers.specs.declared.compiling.FaultLog.{FaultLog}
-use Rattle.filterset_answers.specs.declared.compiling.QuestionFiltersets.{QuestionFiltersets}
-use Rattle.filterset_entries.specs.declared.form.Form.{Form}
-use Rattle.filterset_entries.specs.declared.setting.OverrideEntry.{OverrideEntry}
-use Rattle.filterset_entries.specs.declared.setting.Setting.{Setting}
-use Rattle.filterset_entries.specs.declared.text.Ending.{Ending}
-use Rattle.filterset_entries.specs.declared.text.Ending.TheVariants.{Faulty}
-use Rattle.filterset_entries.specs.declared.text.TextEntry.{TextEntry}
 
 -- ---- what is answered
 

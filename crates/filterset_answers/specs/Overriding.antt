@@ -2,40 +2,27 @@
 use Rattle.std.specs.Prelude.{◌≡◌, ◌==◌, ◌||◌, Bool, true, List, [], ◌++◌, Option, Some, None, codes, is_none, length, not}
 use Rattle.std.specs.List.{AllZip, count_by, list_any, sum_by}
 use Rattle.filterset_drawing.specs.Columns.{Text}
-use Rattle.filterset_expression.specs.declared.expression.CompiledExpr.{CompiledExpr}
-use Rattle.filterset_expression.specs.declared.query.TestQuery.{TestQuery}
+use Rattle.filterset_expression.specs.declared.{expression.CompiledExpr.CompiledExpr, query.TestQuery.TestQuery}
 use Rattle.filterset_faults.specs.declared.span.SourceSpan.{SourceSpan}
 use Rattle.filterset_grammar.specs.Tree.{Tree}
 use Rattle.filterset_graph.specs.declared.package.PackageMetadata.{PackageMetadata}
-use Rattle.filterset_listing.specs.Explaining.{IsExplanation}
-use Rattle.filterset_listing.specs.ExplanationText.{explanation_text}
+use Rattle.filterset_listing.specs.{Explaining.IsExplanation, ExplanationText.explanation_text}
 use Rattle.filterset_listing.specs.ListText.{has_unknown, is_open, some_text}
-use Rattle.filterset_listing.specs.Listing.{uncounted_of}
-use Rattle.filterset_listing.specs.declared.binary.AskedBinary.{AskedBinary}
-use Rattle.filterset_listing.specs.declared.explaining.Explanation.{Explanation}
-use Rattle.filterset_listing.specs.declared.explaining.candidate.Candidate.TheVariants.{Test}
+use Rattle.filterset_listing.specs.{Listing.uncounted_of, declared.binary.AskedBinary.AskedBinary}
+use Rattle.filterset_listing.specs.declared.explaining.{Explanation.Explanation, candidate.Candidate.TheVariants.Test}
 use Rattle.filterset_listing.specs.declared.listing.BinaryPicks.{BinaryPicks}
-use Rattle.filterset_overrides.specs.Applying.{tests_of, verdict}
-use Rattle.filterset_overrides.specs.Counting.{IsTable}
-use Rattle.filterset_overrides.specs.ExplainedText.{test_overrides_text}
-use Rattle.filterset_overrides.specs.Giving.{Explains}
-use Rattle.filterset_overrides.specs.TableText.{override_table_text}
+use Rattle.filterset_overrides.specs.{Applying.tests_of, Applying.verdict, Counting.IsTable}
+use Rattle.filterset_overrides.specs.{ExplainedText.test_overrides_text, Giving.Explains, TableText.override_table_text}
 use Rattle.filterset_overrides.specs.declared.applying.ExplainedOverride.{ExplainedOverride}
-use Rattle.filterset_overrides.specs.declared.asked.AskedOverride.{AskedOverride}
-use Rattle.filterset_overrides.specs.declared.asked.ListedBinary.{ListedBinary}
-use Rattle.filterset_overrides.specs.declared.counting.OverrideRow.{OverrideRow}
-use Rattle.filterset_overrides.specs.declared.counting.OverrideTable.{OverrideTable}
+use Rattle.filterset_overrides.specs.declared.asked.{AskedOverride.AskedOverride, ListedBinary.ListedBinary}
+use Rattle.filterset_overrides.specs.declared.counting.{OverrideRow.OverrideRow, OverrideTable.OverrideTable}
 use Rattle.filterset_overrides.specs.declared.explaining.TestOverrides.{TestOverrides}
 use Rattle.nextest_filtering.specs.declared.filterset.Filterset.{Filterset}
-use Rattle.filterset_entries.specs.Checked.{text_row}
+use Rattle.filterset_entries.specs.{Checked.text_row, Endings.unknown_ending, declared.form.Form.Form}
+use Rattle.filterset_entries.specs.declared.setting.{OverrideEntry.OverrideEntry, Setting.Setting}
+use Rattle.filterset_entries.specs.declared.text.{Ending.Ending, TextEntry.TextEntry}
 use Rattle.filterset_answers.specs.Compiled.{AnswersTexts, IsAskedFor, IsFilterFor, IsTreeOf, Telling}
-use Rattle.filterset_entries.specs.Endings.{unknown_ending}
 use Rattle.filterset_answers.specs.Picks.{ArePicks}
-use Rattle.filterset_entries.specs.declared.form.Form.{Form}
-use Rattle.filterset_entries.specs.declared.setting.OverrideEntry.{OverrideEntry}
-use Rattle.filterset_entries.specs.declared.setting.Setting.{Setting}
-use Rattle.filterset_entries.specs.declared.text.Ending.{Ending}
-use Rattle.filterset_entries.specs.declared.text.TextEntry.{TextEntry}
 
 -- ---- counting tests
 

@@ -8,24 +8,17 @@ use Rattle.filterset_faults.specs.declared.span.SourceSpan.{SourceSpan}
 use Rattle.filterset_grammar.specs.Tree.{Tree}
 use Rattle.filterset_language.specs.Views.{tree_of}
 use Rattle.filterset_listing.specs.Comparing.{IsBinaryDifference, TellsDifference, TellsUnknown}
-use Rattle.filterset_listing.specs.ComparisonText.{comparison_text}
-use Rattle.filterset_listing.specs.ListJson.{IsListJson}
+use Rattle.filterset_listing.specs.{ComparisonText.comparison_text, ListJson.IsListJson}
 use Rattle.filterset_listing.specs.ListText.{has_unknown, list_text}
-use Rattle.filterset_listing.specs.Pickers.{tree_picker}
-use Rattle.filterset_listing.specs.declared.binary.AskedBinary.{AskedBinary}
+use Rattle.filterset_listing.specs.{Pickers.tree_picker, declared.binary.AskedBinary.AskedBinary}
 use Rattle.filterset_listing.specs.declared.comparing.BinaryDifference.{BinaryDifference}
 use Rattle.filterset_listing.specs.declared.listing.BinaryPicks.{BinaryPicks}
 use Rattle.nextest_filtering.specs.declared.filterset.Filterset.{Filterset}
-use Rattle.filterset_answers.specs.Compiled.{AnswersTexts, Telling}
+use Rattle.filterset_answers.specs.{Compiled.AnswersTexts, Compiled.Telling, Overriding.CountsOverrides, Picks.ArePicks}
 use Rattle.filterset_entries.specs.Endings.{differing_ending, unknown_ending}
-use Rattle.filterset_entries.specs.Entries.{question_rows}
-use Rattle.filterset_answers.specs.Overriding.{CountsOverrides}
-use Rattle.filterset_answers.specs.Picks.{ArePicks}
-use Rattle.filterset_entries.specs.declared.form.Form.{Form}
-use Rattle.filterset_entries.specs.declared.question.Question.{Question}
+use Rattle.filterset_entries.specs.{Entries.question_rows, declared.form.Form.Form}
+use Rattle.filterset_entries.specs.declared.{question.Question.Question, setting.Setting.Setting, text.Ending.Ending}
 use Rattle.filterset_entries.specs.declared.question.Question.TheVariants as questions
-use Rattle.filterset_entries.specs.declared.setting.Setting.{Setting}
-use Rattle.filterset_entries.specs.declared.text.Ending.{Ending}
 
 abbrev pub compiled_of : Filterset → CompiledExpr
 compiled_of filterset = filterset.compiled

@@ -1,13 +1,9 @@
 -- Which tests a runner runs under a setting.
-use Rattle.std.specs.Prelude.{List, Bool}
-use Rattle.std.specs.List.{AllZip}
+use Rattle.std.specs.{Prelude.List, Prelude.Bool, List.AllZip}
 use Rattle.filterset_faults.specs.declared.span.SourceSpan.{SourceSpan}
 use Rattle.filterset_grammar.specs.Tree.{Tree}
-use Rattle.filterset_listing.specs.Groups.{Says}
-use Rattle.filterset_listing.specs.Listing.{IsBinaryPicks}
-use Rattle.filterset_listing.specs.Selection.{RunCanPick, RunPicks}
-use Rattle.filterset_listing.specs.declared.binary.AskedBinary.{AskedBinary}
-use Rattle.filterset_listing.specs.declared.listing.BinaryPicks.{BinaryPicks}
+use Rattle.filterset_listing.specs.{Groups.Says, Listing.IsBinaryPicks, Selection.RunCanPick, Selection.RunPicks}
+use Rattle.filterset_listing.specs.declared.{binary.AskedBinary.AskedBinary, listing.BinaryPicks.BinaryPicks}
 use Rattle.filterset_answers.specs.Compiled.{Basis}
 use Rattle.filterset_entries.specs.declared.setting.Setting.{Setting}
 

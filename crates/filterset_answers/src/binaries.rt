@@ -1,6 +1,5 @@
 //! The test binaries of nextest's list, as filtersets are asked about them.
-ghost use Rattle.std.specs.Prelude.{IfOk};
-ghost use Rattle.std.specs.List.{AllZip};
+ghost use Rattle.std.specs.{Prelude.IfOk, List.AllZip};
 ghost use Rattle.filterset_answers.specs.Binaries.{IsAsked};
 
 use filterset_listing::AskedBinary;

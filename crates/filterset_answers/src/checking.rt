@@ -1,12 +1,9 @@
 //! The faults of texts.
 ghost use Rattle.std.specs.Prelude.{◌≡◌, ◌++◌, IfOk, OnOk, [], codes, if◌then◌else◌, ℕ, map, string_bytes};
-ghost use Rattle.filterset_drawing.specs.Columns.{Text};
-ghost use Rattle.filterset_drawing.specs.Remarks.{remark_row};
+ghost use Rattle.filterset_drawing.specs.{Columns.Text, Remarks.remark_row};
 ghost use Rattle.nextest_filtering.specs.Groups.{IsKnown};
-ghost use Rattle.filterset_answers.specs.Answers.{ChecksTexts, FaultsOf, TextFaults};
-ghost use Rattle.filterset_answers.specs.Answers.{counts_text, has_some, summary};
-ghost use Rattle.filterset_entries.specs.Checked.{HasFaults, text_row};
-ghost use Rattle.filterset_entries.specs.Endings.{ending_of};
+ghost use Rattle.filterset_answers.specs.Answers.{ChecksTexts, FaultsOf, TextFaults, counts_text, has_some, summary};
+ghost use Rattle.filterset_entries.specs.{Checked.HasFaults, Checked.text_row, Endings.ending_of};
 
 use filterset_drawing::Remark;
 use filterset_entries::{Answer, Form, Names, TextEntry, ending_of, faults_of, push_faults};

@@ -3,9 +3,8 @@ ghost use Rattle.std.specs.Prelude.{◌≡◌, ◌++◌, ◌∷◌, [], IfOk, On
 ghost use Rattle.std.specs.List.{AllZip};
 ghost use Rattle.filterset_drawing.specs.Columns.{Text};
 ghost use Rattle.nextest_filtering.specs.Groups.{IsKnown};
-ghost use Rattle.filterset_entries.specs.Checked.{text_row};
+ghost use Rattle.filterset_entries.specs.{Checked.text_row, Entries.filter_row};
 ghost use Rattle.filterset_answers.specs.Compiled.{AreCompiled, Compiles, CompilesAll, HasMade, IsFilter, IsMade, IsParsedAs};
-ghost use Rattle.filterset_entries.specs.Entries.{filter_row};
 
 use filterset_entries::{
     Form, OverrideEntry, Setting, TextEntry, fault_remarks, parse_entry, push_faults,

@@ -3,8 +3,7 @@ ghost use Rattle.std.specs.Prelude.{◌≡◌, ◌≢◌, ◌++◌, IfOk, ℕ, m
 ghost use Rattle.filterset_drawing.specs.Columns.{Text};
 ghost use Rattle.filterset_json.specs.Pieces.{Pieces};
 ghost use Rattle.filterset_answers.specs.Answers.{FaultsOf, FormatsTexts, FormattedLine, FormattedPart, IsRewritten, RewritesTexts, SimplifiesTexts, TextFaults};
-ghost use Rattle.filterset_entries.specs.Checked.{HasReadingFaults, text_row};
-ghost use Rattle.filterset_entries.specs.Endings.{ending_of};
+ghost use Rattle.filterset_entries.specs.{Checked.HasReadingFaults, Checked.text_row, Endings.ending_of};
 ghost use Rattle.filterset_language.specs.Views.{tree_of};
 
 use filterset_entries::{Answer, Form, TextEntry, ending_of, fault_remarks, push_faults};

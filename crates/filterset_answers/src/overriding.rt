@@ -1,19 +1,16 @@
 //! How the overrides of a setting apply to tests, and which of their settings they give.
 ghost use Rattle.std.specs.Prelude.{◌≡◌, ◌++◌, [], IfOk, List, OnOk, false, map, string_bytes};
 ghost use Rattle.std.specs.List.{AllZip, count_by};
-ghost use Rattle.filterset_expression.specs.Contexts.{default_of};
-ghost use Rattle.filterset_expression.specs.Expression.{has_leaf, is_default};
+ghost use Rattle.filterset_expression.specs.{Contexts.default_of, Expression.has_leaf, Expression.is_default};
 ghost use Rattle.filterset_expression.specs.Meaning.{IsCompiled};
 ghost use Rattle.filterset_faults.specs.declared.kind.FiltersetKind.TheVariants as kinds;
 ghost use Rattle.filterset_faults.specs.declared.span.SourceSpan.{SourceSpan};
 ghost use Rattle.filterset_grammar.specs.Tree.{Tree};
-ghost use Rattle.filterset_listing.specs.ListText.{is_open};
+ghost use Rattle.filterset_listing.specs.{ListText.is_open, declared.explaining.candidate.Candidate.TheVariants.Test};
 ghost use Rattle.filterset_listing.specs.declared.explaining.Explanation as explanations;
-ghost use Rattle.filterset_listing.specs.declared.explaining.candidate.Candidate.TheVariants.{Test};
 ghost use Rattle.nextest_filtering.specs.Groups.{IsKnown};
 ghost use Rattle.filterset_answers.specs.Compiled.{AreFiltersets, Basis, IsAskedFor, IsTreeOf};
-ghost use Rattle.filterset_answers.specs.Overriding.{AnswersOverrides, CountsOverrides, IsListed, IsReasonFor, TellsOverrides};
-ghost use Rattle.filterset_answers.specs.Overriding.{is_unknown, uncounted_text};
+ghost use Rattle.filterset_answers.specs.Overriding.{AnswersOverrides, CountsOverrides, IsListed, IsReasonFor, TellsOverrides, is_unknown, uncounted_text};
 ghost use Rattle.filterset_answers.specs.Picking.{compiled_of};
 ghost use Rattle.filterset_entries.specs.declared.setting.Setting as settings;
 

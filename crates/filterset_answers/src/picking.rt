@@ -2,16 +2,15 @@
 ghost use Rattle.std.specs.Prelude.{◌≡◌, IfOk, List, false, length, map, option_map, string_bytes};
 ghost use Rattle.std.specs.List.{AllZip};
 ghost use Rattle.serde_json.specs.View.{view};
-ghost use Rattle.filterset_expression.specs.Contexts.{default_of};
-ghost use Rattle.filterset_expression.specs.Expression.{has_leaf, is_default};
+ghost use Rattle.filterset_expression.specs.{Contexts.default_of, Expression.has_leaf, Expression.is_default};
 ghost use Rattle.filterset_expression.specs.Meaning.{IsCompiled};
 ghost use Rattle.filterset_faults.specs.declared.kind.FiltersetKind.TheVariants as kinds;
 ghost use Rattle.filterset_faults.specs.declared.span.SourceSpan.{SourceSpan};
 ghost use Rattle.filterset_grammar.specs.Tree.{Tree};
 ghost use Rattle.nextest_filtering.specs.Groups.{IsKnown};
 ghost use Rattle.filterset_answers.specs.Compiled.{AreFiltersets, Basis, IsTreeOf};
-ghost use Rattle.filterset_entries.specs.Entries.{question_rows};
 ghost use Rattle.filterset_answers.specs.Picking.{AnswersQuestion, Compares, Lists, Tells, compiled_of, parsed_of};
+ghost use Rattle.filterset_entries.specs.Entries.{question_rows};
 ghost use Rattle.filterset_entries.specs.declared.setting.Setting as settings;
 
 use crate::compiling::{CompiledTexts, QuestionFiltersets, compile_texts};

@@ -1,14 +1,11 @@
 //! The tests that a runner runs under a setting.
-ghost use Rattle.std.specs.Prelude.{◌≡◌, IfOk, List, false, map};
-ghost use Rattle.std.specs.List.{AllZip};
+ghost use Rattle.std.specs.{Prelude.◌≡◌, Prelude.IfOk, Prelude.List, Prelude.false, Prelude.map, List.AllZip};
 ghost use Rattle.filterset_expression.specs.Contexts.{default_of};
 ghost use Rattle.filterset_expression.specs.Expression.{formula, has_leaf, is_default};
 ghost use Rattle.filterset_expression.specs.Meaning.{IsCompiled};
 ghost use Rattle.filterset_faults.specs.declared.span.SourceSpan.{SourceSpan};
 ghost use Rattle.filterset_grammar.specs.Tree.{Tree};
-ghost use Rattle.filterset_answers.specs.Compiled.{Basis};
-ghost use Rattle.filterset_answers.specs.Picking.{compiled_of};
-ghost use Rattle.filterset_answers.specs.Picks.{ArePicks};
+ghost use Rattle.filterset_answers.specs.{Compiled.Basis, Picking.compiled_of, Picks.ArePicks};
 ghost use Rattle.filterset_entries.specs.declared.setting.Setting as settings;
 
 use filterset_listing::{AskedBinary, BinaryPicks, GroupOverride, list, selection_of};

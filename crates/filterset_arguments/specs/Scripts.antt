@@ -4,8 +4,7 @@ use Rattle.std.specs.List.{flat_map}
 use Rattle.clap.specs.declared.builder.command.Command.{Command}
 use Rattle.filterset_arguments.specs.Table.{Text, table}
 use Rattle.filterset_arguments.specs.declared.engines.TheConstants.{BASH_END, BASH_START, FISH_END, FISH_START, ZSH_END, ZSH_START}
-use Rattle.filterset_arguments.specs.declared.shell.Shell.{Shell}
-use Rattle.filterset_arguments.specs.declared.shell.Shell.TheVariants.{Bash, Fish, Zsh}
+use Rattle.filterset_arguments.specs.declared.shell.Shell.{Shell, TheVariants.Bash, TheVariants.Fish, TheVariants.Zsh}
 
 abbrev pub name_of : Shell → Text
 name_of Bash = codes "bash"

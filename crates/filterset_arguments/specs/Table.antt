@@ -1,17 +1,11 @@
 -- The table of a program's commands and arguments. A line has five columns: the command that it is about, or nothing for
 -- the program itself; a name; a short name; which values are taken; and help.
 use Rattle.std.specs.Prelude.{ℕ, List, [], ◌++◌, Option, None, Some, codes, encode_utf8, unwrap_or}
-use Rattle.std.specs.Borrow.{Bor}
-use Rattle.std.specs.List.{flat_map}
-use Rattle.std.specs.Option.{option_map_or}
-use Rattle.clap.specs.Words.{parser_of}
-use Rattle.clap.specs.declared.builder.command.Command.TheViews.{out-Command as fields_of}
-use Rattle.clap.specs.declared.builder.action.ArgAction.{ArgAction}
-use Rattle.clap.specs.declared.builder.action.ArgAction.TheVariants.{Append, Set}
-use Rattle.clap.specs.declared.builder.arg.Arg.{Arg}
-use Rattle.clap.specs.declared.builder.command.Command.{Command}
-use Rattle.clap.specs.declared.builder.value_parser.ValueParser.{ValueParser}
-use Rattle.clap.specs.declared.builder.value_parser.ValueParser.TheVariants.{Names}
+use Rattle.std.specs.{Borrow.Bor, List.flat_map, Option.option_map_or}
+use Rattle.clap.specs.{Words.parser_of, declared.builder.command.Command.TheViews.out-Command as fields_of}
+use Rattle.clap.specs.declared.builder.action.ArgAction.{ArgAction, TheVariants.Append, TheVariants.Set}
+use Rattle.clap.specs.declared.builder.{arg.Arg.Arg, command.Command.Command}
+use Rattle.clap.specs.declared.builder.value_parser.ValueParser.{ValueParser, TheVariants.Names}
 use Rattle.filterset_arguments.specs.declared.engines.TheConstants.{ADDED}
 
 -- a text is the list of its UTF-8 bytes

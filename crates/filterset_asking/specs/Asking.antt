@@ -1,55 +1,36 @@
 -- What `list`, `compare`, `explain` and `overrides` answer about the workspace that files describe.
 use Rattle.std.specs.Prelude.{◌≡◌, ◌⊎◌, List, [], Option, Some, None, MatchOption, MatchResult, IsSomeAnd, codes, flat_map, map, string_bytes, unwrap_or}
-use Rattle.std.specs.List.{AllZip}
-use Rattle.std.specs.declared.io.Error.{Error}
-use Rattle.serde_json.specs.Data.{Data}
-use Rattle.serde_json.specs.View.{view}
-use Rattle.filterset_answers.specs.Binaries.{IsAsked}
-use Rattle.filterset_entries.specs.Checked.{TextRow, text_row}
-use Rattle.filterset_entries.specs.Endings.{AnswersUnknown}
-use Rattle.filterset_entries.specs.Entries.{default_row}
-use Rattle.filterset_answers.specs.Explained.{AnswersExplanation}
-use Rattle.filterset_answers.specs.Picking.{AnswersQuestion}
+use Rattle.std.specs.{List.AllZip, declared.io.Error.Error}
+use Rattle.serde_json.specs.{Data.Data, View.view}
+use Rattle.filterset_answers.specs.{Binaries.IsAsked, Explained.AnswersExplanation, Picking.AnswersQuestion}
+use Rattle.filterset_entries.specs.{Checked.TextRow, Checked.text_row, Endings.AnswersUnknown, Entries.default_row}
 use Rattle.filterset_entries.specs.Profile.{IsEntryOf, IsProfileOf}
-use Rattle.filterset_entries.specs.declared.entries.ConfiguredTexts.{ConfiguredTexts}
-use Rattle.filterset_entries.specs.declared.form.Form.{Form}
-use Rattle.filterset_entries.specs.declared.form.Form.TheVariants.{Json}
-use Rattle.filterset_entries.specs.declared.setting.OverrideEntry.{OverrideEntry}
-use Rattle.filterset_entries.specs.declared.setting.Setting.{Setting}
-use Rattle.filterset_entries.specs.declared.text.Ending.{Ending}
-use Rattle.filterset_entries.specs.declared.text.TextEntry.{TextEntry}
+use Rattle.filterset_entries.specs.declared.{entries.ConfiguredTexts.ConfiguredTexts, form.Form.Form}
+use Rattle.filterset_entries.specs.declared.{form.Form.TheVariants.Json, setting.OverrideEntry.OverrideEntry}
+use Rattle.filterset_entries.specs.declared.{setting.Setting.Setting, text.Ending.Ending, text.TextEntry.TextEntry}
 use Rattle.filterset_drawing.specs.Columns.{Text}
 use Rattle.filterset_faults.specs.declared.kind.FiltersetKind.TheVariants.{DefaultFilter}
 use Rattle.filterset_graph.specs.declared.package.PackageMetadata.{PackageMetadata}
-use Rattle.filterset_listing.specs.declared.binary.AskedBinary.{AskedBinary}
-use Rattle.filterset_listing.specs.declared.explaining.candidate.Candidate.{Candidate}
+use Rattle.filterset_listing.specs.declared.{binary.AskedBinary.AskedBinary, explaining.candidate.Candidate.Candidate}
 use Rattle.filterset_overrides.specs.declared.asked.AskedProfile.{AskedProfile}
-use Rattle.filterset_configuration.specs.PlatformTrees.{facts_of}
-use Rattle.filterset_configuration.specs.Lineages.{Lineage}
+use Rattle.filterset_configuration.specs.{PlatformTrees.facts_of, Lineages.Lineage}
 use Rattle.filterset_configuration.specs.Ranking.{IsDefaultFilter, IsRanked, placed}
+use Rattle.filterset_configuration.specs.declared.{profiles.Profile.Profile, ranking.RankedOverride.RankedOverride}
 use Rattle.filterset_configuration.specs.declared.defaults.DefaultFilter as defaults
-use Rattle.filterset_configuration.specs.declared.profiles.Profile.{Profile}
-use Rattle.filterset_configuration.specs.declared.ranking.RankedOverride.{RankedOverride}
 use Rattle.filterset_sources.specs.Platforms.{ArePlatforms}
-use Rattle.filterset_sources.specs.declared.list.Suite.{Suite}
-use Rattle.filterset_sources.specs.declared.platforms.BuildPlatforms.{BuildPlatforms}
-use Rattle.filterset_asking.specs.Warnings.{AnswersWarnings}
-use Rattle.nextest_filtering.specs.Groups.{IsGlobalOnly}
-use Rattle.nextest_filtering.specs.declared.compile.context.KnownGroups.{KnownGroups}
-use Rattle.filterset_loading.specs.Configurations.{AreKnown, AreProfilesIn, AreTextsOf, IsProfileFault, chosen, given_row}
+use Rattle.filterset_sources.specs.declared.{list.Suite.Suite, platforms.BuildPlatforms.BuildPlatforms}
 use Rattle.filterset_asking.specs.Explaining.{IsCandidate, IsMissing, is_uncounted}
-use Rattle.filterset_loading.specs.Files.{name_of}
 use Rattle.filterset_asking.specs.Overriding.{AnswersOverridesOf, LacksTests}
+use Rattle.filterset_asking.specs.{Warnings.AnswersWarnings, declared.asking.AskedWorkspace.AskedWorkspace}
+use Rattle.nextest_filtering.specs.{Groups.IsGlobalOnly, declared.compile.context.KnownGroups.KnownGroups}
+use Rattle.filterset_loading.specs.Configurations.{AreKnown, AreProfilesIn, AreTextsOf, IsProfileFault, chosen, given_row}
+use Rattle.filterset_loading.specs.Files.{name_of}
 use Rattle.filterset_loading.specs.Workspaces.{IsPlatformsFault, IsWorkspaceFault, IsWorkspaceIn}
 use Rattle.filterset_loading.specs.declared.request.Asked.{Asked}
 use Rattle.filterset_loading.specs.declared.request.Asked.TheVariants.{Explanation, Overrides, Question, Warnings}
-use Rattle.filterset_asking.specs.declared.asking.AskedWorkspace.{AskedWorkspace}
-use Rattle.filterset_loading.specs.declared.request.WorkspaceRequest.{WorkspaceRequest}
-use Rattle.filterset_loading.specs.declared.fault.CommandFault.{CommandFault}
-use Rattle.filterset_loading.specs.declared.profile.KnownPlatforms.{KnownPlatforms}
-use Rattle.filterset_loading.specs.declared.profile.ProfileRequest.{ProfileRequest}
-use Rattle.filterset_loading.specs.declared.profile.ProfilesFile.{ProfilesFile}
-use Rattle.filterset_loading.specs.declared.workspace.Workspace.{Workspace}
+use Rattle.filterset_loading.specs.declared.{request.WorkspaceRequest.WorkspaceRequest, fault.CommandFault.CommandFault}
+use Rattle.filterset_loading.specs.declared.profile.{KnownPlatforms.KnownPlatforms, ProfileRequest.ProfileRequest}
+use Rattle.filterset_loading.specs.declared.{profile.ProfilesFile.ProfilesFile, workspace.Workspace.Workspace}
 
 -- what nextest wrote of the list, where an answer of this form is in its shape
 abbrev pub kept_of : Form → Data → Option Data

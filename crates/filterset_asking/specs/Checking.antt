@@ -1,38 +1,24 @@
 -- What `check` answers, by the names that files give.
 use Rattle.std.specs.Prelude.{◌≡◌, ◌⊎◌, ◌+◌, ◌++◌, ℕ, List, [], ◌∷◌, Option, Some, None, IfSome, IsSomeAnd, is_some, length, map, string_bytes}
-use Rattle.std.specs.Borrow.{Bor}
-use Rattle.std.specs.Option.{option_map_or}
-use Rattle.std.specs.declared.io.Error.{Error}
+use Rattle.std.specs.{Borrow.Bor, Option.option_map_or, declared.io.Error.Error}
 use Rattle.filterset_answers.specs.Answers.{ChecksTexts}
-use Rattle.filterset_entries.specs.Checked.{TextRow}
-use Rattle.filterset_entries.specs.Endings.{ending_of}
-use Rattle.filterset_entries.specs.Entries.{rows_in}
-use Rattle.filterset_entries.specs.Names.{KnowsNames}
-use Rattle.filterset_entries.specs.declared.entries.ConfiguredTexts.{ConfiguredTexts}
-use Rattle.filterset_entries.specs.declared.form.Form.{Form}
-use Rattle.filterset_entries.specs.declared.names.Names.{Names}
+use Rattle.filterset_entries.specs.{Checked.TextRow, Endings.ending_of, Entries.rows_in, Names.KnowsNames}
+use Rattle.filterset_entries.specs.declared.{entries.ConfiguredTexts.ConfiguredTexts, form.Form.Form, names.Names.Names}
 use Rattle.filterset_entries.specs.declared.text.Ending.{Ending}
-use Rattle.filterset_drawing.specs.Columns.{Text}
-use Rattle.filterset_drawing.specs.declared.source.Source.{Source}
+use Rattle.filterset_drawing.specs.{Columns.Text, declared.source.Source.Source}
 use Rattle.filterset_json.specs.Pieces.{Pieces}
 use Rattle.filterset_graph.specs.declared.package.PackageMetadata.{PackageMetadata}
-use Rattle.filterset_configuration.specs.declared.place.Place.{Place}
-use Rattle.filterset_configuration.specs.declared.places.Places.{Places}
-use Rattle.filterset_configuration.specs.Profiles.{HasProfiles}
-use Rattle.filterset_configuration.specs.Wrong.{AreWrongValues}
-use Rattle.filterset_configuration.specs.declared.profiles.Profile.{Profile}
-use Rattle.filterset_configuration.specs.declared.wrong.WrongValue.{WrongValue}
-use Rattle.filterset_sources.specs.Configurations.{RefusesConfiguration}
-use Rattle.filterset_sources.specs.Metadata.{RefusesMetadata}
+use Rattle.filterset_configuration.specs.declared.{place.Place.Place, places.Places.Places}
+use Rattle.filterset_configuration.specs.{Profiles.HasProfiles, Wrong.AreWrongValues}
+use Rattle.filterset_configuration.specs.declared.{profiles.Profile.Profile, wrong.WrongValue.WrongValue}
+use Rattle.filterset_sources.specs.{Configurations.RefusesConfiguration, Metadata.RefusesMetadata}
 use Rattle.filterset_sources.specs.declared.configuration.Configuration.{Configuration}
 use Rattle.filterset_loading.specs.Configurations.{AreTextsOf, HasNamed, IsConfigurationIn, IsRefusedProfile, LacksName}
 use Rattle.filterset_loading.specs.Files.{BySource, IsFileFault, name_of}
-use Rattle.filterset_asking.specs.Configured.{WarnsOfFile}
-use Rattle.filterset_asking.specs.Values.{IsValuePiece}
-use Rattle.filterset_asking.specs.Warned.{AnswersWarned, IsWarnedFault, either_ending, request_after}
 use Rattle.filterset_loading.specs.Workspaces.{KnownPackages, RefusesValue}
-use Rattle.filterset_loading.specs.declared.request.CheckPaths.{CheckPaths}
-use Rattle.filterset_loading.specs.declared.fault.CommandFault.{CommandFault}
+use Rattle.filterset_loading.specs.declared.{request.CheckPaths.CheckPaths, fault.CommandFault.CommandFault}
+use Rattle.filterset_asking.specs.{Configured.WarnsOfFile, Values.IsValuePiece}
+use Rattle.filterset_asking.specs.Warned.{AnswersWarned, IsWarnedFault, either_ending, request_after}
 use Rattle.filterset_loading.specs.declared.fault.FileRole.TheVariants as roles
 
 -- the configuration is that of the file with these bytes, and has nothing where there is no file

@@ -1,7 +1,6 @@
 -- Which span of its text a part of a filterset has.
 use Rattle.std.specs.Prelude.{◌+◌, ◌-◌, ◌^◌, Option, None, Some, min}
-use Rattle.filterset_faults.specs.Span.{length_of, offset_of, span}
-use Rattle.filterset_faults.specs.declared.span.SourceSpan.{SourceSpan}
+use Rattle.filterset_faults.specs.{Span.length_of, Span.offset_of, Span.span, declared.span.SourceSpan.SourceSpan}
 use Rattle.filterset_grammar.specs.Tree.{Tree, Not, Union, Join, Parens, Set}
 use Rattle.filterset_language.specs.Faults.{leaf_span}
 

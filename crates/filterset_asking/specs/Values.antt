@@ -2,12 +2,9 @@
 use Rattle.std.specs.Prelude.{◌++◌, Option, None, codes, length, option_map, string_bytes}
 use Rattle.std.specs.Borrow.{Bor}
 use Rattle.filterset_entries.specs.Forms.{IsWritten, writing}
-use Rattle.filterset_entries.specs.Placements.{Placement, literal}
-use Rattle.filterset_entries.specs.declared.form.Form.{Form}
-use Rattle.filterset_drawing.specs.Columns.{Text}
-use Rattle.filterset_drawing.specs.Remarks.{RemarkRow, said}
-use Rattle.filterset_drawing.specs.declared.remark.Severity.TheVariants.{Error}
-use Rattle.filterset_drawing.specs.declared.source.Source.{Source}
+use Rattle.filterset_entries.specs.{Placements.Placement, Placements.literal, declared.form.Form.Form}
+use Rattle.filterset_drawing.specs.{Columns.Text, Remarks.RemarkRow, Remarks.said}
+use Rattle.filterset_drawing.specs.declared.{remark.Severity.TheVariants.Error, source.Source.Source}
 use Rattle.filterset_faults.specs.Span.{span}
 use Rattle.filterset_configuration.specs.declared.wrong.WrongValue.{WrongValue}
 

@@ -1,40 +1,29 @@
 -- What `check` warns of, by a list of tests.
 use Rattle.std.specs.Prelude.{◌≡◌, ◌⊎◌, ◌==◌, List, [], ◌∷◌, Option, None, IfSome, IsSomeAnd, MatchOption, if◌then◌else◌}
-use Rattle.std.specs.Borrow.{Bor}
-use Rattle.std.specs.List.{AllZip}
-use Rattle.std.specs.declared.io.Error.{Error}
+use Rattle.std.specs.{Borrow.Bor, List.AllZip, declared.io.Error.Error}
 use Rattle.serde_json.specs.Data.{Data}
 use Rattle.filterset_answers.specs.Binaries.{IsAsked}
-use Rattle.filterset_entries.specs.Checked.{TextRow}
-use Rattle.filterset_entries.specs.declared.entries.ConfiguredTexts.{ConfiguredTexts}
-use Rattle.filterset_entries.specs.declared.form.Form.{Form}
-use Rattle.filterset_entries.specs.declared.setting.Setting.{Setting}
-use Rattle.filterset_entries.specs.declared.text.Ending.{Ending}
-use Rattle.filterset_entries.specs.declared.text.Ending.TheVariants.{Fine}
+use Rattle.filterset_entries.specs.{Checked.TextRow, declared.entries.ConfiguredTexts.ConfiguredTexts}
+use Rattle.filterset_entries.specs.declared.{form.Form.Form, setting.Setting.Setting}
+use Rattle.filterset_entries.specs.declared.text.{Ending.Ending, Ending.TheVariants.Fine, WarningEnd.WarningEnd}
 use Rattle.filterset_drawing.specs.Columns.{Text}
 use Rattle.filterset_graph.specs.declared.package.PackageMetadata.{PackageMetadata}
 use Rattle.filterset_listing.specs.declared.binary.AskedBinary.{AskedBinary}
 use Rattle.filterset_configuration.specs.Profiles.{HasProfiles}
-use Rattle.filterset_configuration.specs.declared.profiles.Profile.{Profile}
-use Rattle.filterset_configuration.specs.declared.wrong.WrongValue.{WrongValue}
-use Rattle.filterset_sources.specs.Configurations.{IsConfiguration}
-use Rattle.filterset_sources.specs.Platforms.{ArePlatforms}
-use Rattle.filterset_sources.specs.declared.configuration.Configuration.{Configuration}
-use Rattle.filterset_sources.specs.declared.list.Suite.{Suite}
+use Rattle.filterset_configuration.specs.declared.{profiles.Profile.Profile, wrong.WrongValue.WrongValue}
+use Rattle.filterset_sources.specs.{Configurations.IsConfiguration, Platforms.ArePlatforms}
+use Rattle.filterset_sources.specs.declared.{configuration.Configuration.Configuration, list.Suite.Suite}
 use Rattle.filterset_sources.specs.declared.platforms.BuildPlatforms.{BuildPlatforms}
 use Rattle.filterset_asking.specs.Warnings.{AnswersWarnings, summary, warned_ending}
-use Rattle.filterset_entries.specs.declared.text.WarningEnd.{WarningEnd}
+use Rattle.filterset_asking.specs.{Asking.AnswersProfile, Asking.IsPlain, declared.warning.CheckedTexts.CheckedTexts}
 use Rattle.nextest_filtering.specs.declared.compile.context.KnownGroups.{KnownGroups}
-use Rattle.filterset_asking.specs.Asking.{AnswersProfile, IsPlain}
 use Rattle.filterset_loading.specs.Configurations.{AreKnown, IsRefusedProfile, IsSettingsFault, LacksProfile, profile_at}
 use Rattle.filterset_loading.specs.Files.{IsFileFault}
 use Rattle.filterset_loading.specs.Workspaces.{IsListIn, IsPlatformsFault, RefusesList, RefusesValue}
 use Rattle.filterset_loading.specs.declared.fault.CommandFault.{CommandFault}
-use Rattle.filterset_loading.specs.declared.fault.FileRole.TheVariants as roles
-use Rattle.filterset_loading.specs.declared.profile.KnownPlatforms.{KnownPlatforms}
-use Rattle.filterset_loading.specs.declared.profile.ProfileRequest.{ProfileRequest}
-use Rattle.filterset_asking.specs.declared.warning.CheckedTexts.{CheckedTexts}
+use Rattle.filterset_loading.specs.declared.profile.{KnownPlatforms.KnownPlatforms, ProfileRequest.ProfileRequest}
 use Rattle.filterset_loading.specs.declared.request.WarningRequest.{WarningRequest}
+use Rattle.filterset_loading.specs.declared.fault.FileRole.TheVariants as roles
 
 -- ---- what is answered
 

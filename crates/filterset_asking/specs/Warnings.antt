@@ -1,32 +1,22 @@
 -- What is written of what a list of tests says of filtersets.
 use Rattle.std.specs.Prelude.{◌≡◌, ◌≢◌, ◌⊎◌, ◌==◌, ◌+◌, ◌++◌, ℕ, suc, Bool, true, false, List, [], ◌∷◌, None, codes, decimal, if◌then◌else◌, length, map}
 use Rattle.std.specs.List.{count_by}
-use Rattle.filterset_answers.specs.Answers.{FaultsOf}
+use Rattle.filterset_answers.specs.{Answers.FaultsOf, Compiled.Basis as SettingBasis}
 use Rattle.filterset_entries.specs.Checked.{IsAccepted, IsRefusedFor, HasRefusal, TextRow}
+use Rattle.filterset_entries.specs.{Entries.setting_rows, Forms.IsWritten, Forms.text_writing}
+use Rattle.filterset_entries.specs.declared.{form.Form.Form, form.Form.TheVariants.Drawn, setting.Setting.Setting}
+use Rattle.filterset_entries.specs.declared.text.Ending.{Ending, TheVariants.Faulty, TheVariants.Fine}
+use Rattle.filterset_entries.specs.declared.text.WarningEnd.{WarningEnd}
 use Rattle.filterset_rewriting.specs.declared.reading.TextRefusal.{TextRefusal}
-use Rattle.filterset_answers.specs.Compiled.{Basis as SettingBasis}
-use Rattle.filterset_entries.specs.Entries.{setting_rows}
-use Rattle.filterset_entries.specs.Forms.{IsWritten, text_writing}
-use Rattle.filterset_entries.specs.declared.form.Form.{Form}
-use Rattle.filterset_entries.specs.declared.form.Form.TheVariants.{Drawn}
-use Rattle.filterset_entries.specs.declared.setting.Setting.{Setting}
-use Rattle.filterset_entries.specs.declared.text.Ending.{Ending}
-use Rattle.filterset_entries.specs.declared.text.Ending.TheVariants.{Faulty, Fine}
-use Rattle.filterset_drawing.specs.Columns.{Text}
-use Rattle.filterset_drawing.specs.Remarks.{RemarkRow, said}
+use Rattle.filterset_drawing.specs.{Columns.Text, Remarks.RemarkRow, Remarks.said}
 use Rattle.filterset_drawing.specs.declared.remark.Severity.TheVariants.{Warning}
 use Rattle.filterset_faults.specs.declared.span.SourceSpan.{SourceSpan}
-use Rattle.filterset_grammar.specs.Printing.{printed}
-use Rattle.filterset_grammar.specs.Tree.{Tree}
-use Rattle.filterset_listing.specs.Subjects.{AreSubjects}
-use Rattle.filterset_listing.specs.Needless.{AreNeedless, Found}
-use Rattle.filterset_listing.specs.SubjectValues.{Basis}
+use Rattle.filterset_grammar.specs.{Printing.printed, Tree.Tree}
+use Rattle.filterset_listing.specs.{Subjects.AreSubjects, Needless.AreNeedless, Needless.Found, SubjectValues.Basis}
 use Rattle.filterset_listing.specs.Unmatched.{AreUnmatched, Unmatched, unmatched_message}
-use Rattle.filterset_listing.specs.declared.subjects.Subject.{Subject}
+use Rattle.filterset_listing.specs.declared.{subjects.Subject.Subject, binary.AskedBinary.AskedBinary}
 use Rattle.filterset_json.specs.Pieces.{Pieces}
 use Rattle.filterset_language.specs.Faults.{leaf_span}
-use Rattle.filterset_listing.specs.declared.binary.AskedBinary.{AskedBinary}
-use Rattle.filterset_entries.specs.declared.text.WarningEnd.{WarningEnd}
 use Rattle.nextest_filtering.specs.declared.compile.context.KnownGroups.{KnownGroups}
 use Rattle.filterset_asking.specs.Spans.{tree_span}
 

@@ -7,8 +7,7 @@ ghost use Rattle.filterset_entries.specs.declared.setting.Setting as settings;
 ghost use Rattle.filterset_faults.specs.declared.kind.FiltersetKind.TheVariants as kinds;
 ghost use Rattle.nextest_filtering.specs.Groups.{IsKnown};
 ghost use Rattle.filterset_asking.specs.Asking.{AnswersAsked, AnswersIn, AnswersOf, HasParts, IsAskedFault, IsPlain, Lacks, LacksOf, kept_of};
-ghost use Rattle.filterset_loading.specs.Configurations.{given_row};
-ghost use Rattle.filterset_loading.specs.Files.{OrMemory};
+ghost use Rattle.filterset_loading.specs.{Configurations.given_row, Files.OrMemory};
 
 use crate::explaining::{candidate_of, is_uncounted};
 use crate::overriding::ask_overrides;

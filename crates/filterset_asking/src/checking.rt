@@ -1,14 +1,12 @@
 //! The command `check`: the faults of texts and of a configuration's filtersets, by the names that files give.
 ghost use Rattle.std.specs.Prelude.{◌≡◌, ◌++◌, IfErr, IfOk, IfSome, IsSomeAnd, OnOk, map, string_bytes};
-ghost use Rattle.filterset_entries.specs.Checked.{text_row};
-ghost use Rattle.filterset_entries.specs.Entries.{rows_in};
+ghost use Rattle.filterset_entries.specs.{Checked.text_row, Entries.rows_in};
 ghost use Rattle.nextest_filtering.specs.Groups.{IsKnown};
 ghost use Rattle.filterset_sources.specs.Configurations.{IsConfiguration, RefusesConfiguration};
 ghost use Rattle.filterset_sources.specs.declared.configuration.Configuration as configurations;
 ghost use Rattle.filterset_asking.specs.Checking.{AnswersCheck, ChecksAll, ChecksKnown, HasAsked, IsCheckFault, IsUnchecked, KnownConfiguration, LacksAsked, file_name};
-ghost use Rattle.filterset_loading.specs.Configurations.{HasNamed};
-ghost use Rattle.filterset_loading.specs.Files.{BySource, IsFileFault, OrMemory};
 ghost use Rattle.filterset_asking.specs.Warned.{request_after};
+ghost use Rattle.filterset_loading.specs.{Configurations.HasNamed, Files.BySource, Files.IsFileFault, Files.OrMemory};
 
 use crate::configured::warn_configuration;
 use crate::values::add_values;

@@ -6,8 +6,7 @@ ghost use Rattle.filterset_configuration.specs.Ranking.{IsDefaultFilter};
 ghost use Rattle.filterset_configuration.specs.declared.defaults.DefaultFilter as filters;
 ghost use Rattle.nextest_filtering.specs.Groups.{IsKnown};
 ghost use Rattle.filterset_asking.specs.Asking.{AnswersBy, AnswersConfigured, AnswersIn, AnswersProfile, AnswersWith, Lacks};
-ghost use Rattle.filterset_loading.specs.Configurations.{IsProfileFault, LacksProfile};
-ghost use Rattle.filterset_loading.specs.Files.{OrMemory};
+ghost use Rattle.filterset_loading.specs.{Configurations.IsProfileFault, Configurations.LacksProfile, Files.OrMemory};
 
 use crate::asking::{AskedWorkspace, ask_under};
 use filterset_configuration::{

@@ -4,10 +4,8 @@ ghost use Rattle.filterset_entries.specs.Checked.{IsAccepted, text_row};
 ghost use Rattle.filterset_drawing.specs.Columns.{Text};
 ghost use Rattle.filterset_expression.specs.Meaning.{IsCompiled};
 ghost use Rattle.filterset_language.specs.Views.{tree_of};
-ghost use Rattle.nextest_filtering.specs.Compiling.{packages_of};
-ghost use Rattle.nextest_filtering.specs.Groups.{IsKnown};
-ghost use Rattle.filterset_asking.specs.Contexts.{basis_of};
-ghost use Rattle.filterset_asking.specs.Warnings.{TextWarnings, WarningsOf};
+ghost use Rattle.nextest_filtering.specs.{Compiling.packages_of, Groups.IsKnown};
+ghost use Rattle.filterset_asking.specs.{Contexts.basis_of, Warnings.TextWarnings, Warnings.WarningsOf};
 
 use crate::hints::remarks_of;
 use filterset_drawing::Source;

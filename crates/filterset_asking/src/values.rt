@@ -1,9 +1,7 @@
 //! The wrong values of a configuration.
 ghost use Rattle.std.specs.Prelude.{◌≡◌, ◌==◌, ◌++◌, IfOk, OnOk, if◌then◌else◌, length, option_map, string_bytes};
-ghost use Rattle.filterset_entries.specs.Placements.{placement_of};
-ghost use Rattle.filterset_entries.specs.declared.text.Ending.TheVariants.{Faulty};
-ghost use Rattle.filterset_drawing.specs.Columns.{Text};
-ghost use Rattle.filterset_drawing.specs.Remarks.{remark_row};
+ghost use Rattle.filterset_entries.specs.{Placements.placement_of, declared.text.Ending.TheVariants.Faulty};
+ghost use Rattle.filterset_drawing.specs.{Columns.Text, Remarks.remark_row};
 ghost use Rattle.filterset_json.specs.Pieces.{Pieces};
 ghost use Rattle.filterset_asking.specs.Values.{IsValuePiece, value_place, value_remark};
 

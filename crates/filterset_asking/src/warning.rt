@@ -6,9 +6,8 @@ ghost use Rattle.filterset_sources.specs.Configurations.{IsConfiguration};
 ghost use Rattle.filterset_sources.specs.declared.configuration.Configuration as configurations;
 ghost use Rattle.nextest_filtering.specs.Groups.{IsKnown};
 ghost use Rattle.filterset_asking.specs.Asking.{AnswersIn, Lacks};
-ghost use Rattle.filterset_loading.specs.Files.{OrMemory};
 ghost use Rattle.filterset_asking.specs.Warned.{AnswersListed, AnswersWarned, HasConfiguration, IsListedFault, IsProfileUnused, IsWarnedFault, WarnsBy, either_ending};
-ghost use Rattle.filterset_loading.specs.Configurations.{profile_at};
+ghost use Rattle.filterset_loading.specs.{Files.OrMemory, Configurations.profile_at};
 
 use crate::asking::{AskedWorkspace, ask_plainly};
 use crate::profiled::ask_profile;

@@ -1,16 +1,13 @@
 -- What was parsed is within the workspace's limit of levels.
 use Rattle.std.proofs.Common.{◌≡◌, ℕ, List, subst}
 use Rattle.std.specs.Prelude.{Err, IfOk, Ok, Result}
-use Rattle.filterset_faults.specs.declared.kind.FiltersetKind.{FiltersetKind}
-use Rattle.filterset_faults.specs.declared.span.SourceSpan.{SourceSpan}
-use Rattle.filterset_grammar.specs.Grammar.{Spells}
-use Rattle.filterset_grammar.specs.Tree.{Tree}
+use Rattle.filterset_faults.specs.declared.{kind.FiltersetKind.FiltersetKind, span.SourceSpan.SourceSpan}
+use Rattle.filterset_grammar.specs.{Grammar.Spells, Tree.Tree}
 use Rattle.filterset_language.specs.Views.{tree_of}
 use Rattle.filterset_rewriting.specs.Nesting.Depth.{depth}
 use Rattle.nextest_filtering.specs.declared.filterset.Filterset.{Filterset}
 use Rattle.filterset_c.specs.Parsing.{IsAccepted, IsFiltersetWithin, IsWithin}
-use Rattle.filterset_c.specs.declared.failure.Failure.{Failure}
-use Rattle.filterset_c.specs.declared.object.Refusal.{Refusal}
+use Rattle.filterset_c.specs.declared.{failure.Failure.Failure, object.Refusal.Refusal}
 use Rattle.filterset_c.specs.declared.object.Workspace as object
 
 -- whatever filterset a text is, it is within the limit

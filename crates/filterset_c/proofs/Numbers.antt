@@ -1,19 +1,15 @@
 -- The numbers of the answers for all tests of a binary.
 use Rattle.std.proofs.Common.{ℕ, List, [], ◌∷◌, ◌++◌, lit<, subst, sym}
-use Rattle.std.specs.Prelude.{Option, None, Some, slice_index_or}
-use Rattle.std.specs.List.{All, AllZip}
+use Rattle.std.specs.{Prelude.Option, Prelude.None, Prelude.Some, Prelude.slice_index_or, List.All, List.AllZip}
 use Rattle.std.proofs.lemmas.List.Elements.{All-from_recursion}
 use Rattle.filterset_expression.specs.FlatExpressions.{IsFlat}
-use Rattle.filterset_expression.specs.declared.flat.FlatExpr.{FlatExpr}
-use Rattle.filterset_expression.specs.declared.query.BinaryQuery.{BinaryQuery}
+use Rattle.filterset_expression.specs.declared.{flat.FlatExpr.FlatExpr, query.BinaryQuery.BinaryQuery}
 use Rattle.filterset_language.specs.Views.{tree_of}
 use Rattle.filterset_c.specs.Answers.{HoldsFilterset, IsFlatNumber, IsTestNumber}
 use Rattle.filterset_c.specs.Queries.{AreAllTexts, AreTexts, IsAbout, IsWellTest}
-use Rattle.filterset_c.specs.declared.object.BoundFilterset.{BoundFilterset}
-use Rattle.filterset_c.specs.declared.object.Object.{Object}
+use Rattle.filterset_c.specs.declared.object.{BoundFilterset.BoundFilterset, Object.Object}
+use Rattle.filterset_c.specs.declared.queries.{Binary.Binary, Test.Test}
 use Rattle.filterset_c.specs.declared.object.Object.TheVariants as held
-use Rattle.filterset_c.specs.declared.queries.Binary.{Binary}
-use Rattle.filterset_c.specs.declared.queries.Test.{Test}
 
 -- one more test, with its number
 pub AllZip-more : {A B : Type 0} (R : A → B → Type 0) (xs : List A) (ys : List B) (x : A) (y : B)

@@ -1,8 +1,7 @@
 -- Texts that are no records.
 use Rattle.std.proofs.Common.{◌≡◌, ℕ, List, inl, inr, subst}
 use Rattle.std.specs.Prelude.{Some}
-use Rattle.serde_json.specs.Data.{Data}
-use Rattle.serde_json.specs.Read.{read}
+use Rattle.serde_json.specs.{Data.Data, Read.read}
 use Rattle.filterset_report.specs.Record.{IsRecord, RecordRow}
 use Rattle.filterset_c.specs.Workspaces.{IsNoGraphOf, IsNoRecord}
 

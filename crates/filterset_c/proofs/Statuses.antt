@@ -4,11 +4,9 @@ use Rattle.std.specs.Prelude.{Option, Result, Ok, Err, IfOk, IfErr, Vec, length}
 use Rattle.std.specs.declared.alloc.Global.{Global}
 use Rattle.filterset_c.specs.Parsing.{IsWorkspaceStored}
 use Rattle.filterset_c.specs.Statuses.{IsDone, IsJudged, IsSourceFailure, status_code}
-use Rattle.filterset_c.specs.Written.{AreWritten}
-use Rattle.filterset_c.specs.declared.failure.Failure.{Failure}
+use Rattle.filterset_c.specs.{Written.AreWritten, declared.failure.Failure.Failure}
 use Rattle.filterset_c.specs.declared.failure.Failure.TheVariants.{OutOfMemory, WrongHandle, NotUtf8, Rejected, InvalidArgument}
-use Rattle.filterset_c.specs.declared.object.Object.{Object}
-use Rattle.filterset_c.specs.declared.object.Workspace.{Workspace}
+use Rattle.filterset_c.specs.declared.object.{Object.Object, Workspace.Workspace}
 
 -- ---- statuses tell failures apart
 

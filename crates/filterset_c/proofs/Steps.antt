@@ -5,6 +5,13 @@
 --     handle_out, handle_in      a handle by value is its address, and what it owns
 --     by_address                 what it owns, by whether the address is null
 use Rattle.std.proofs.Common.{◌≡◌, ℕ, List, [], ◌∷◌, ◌++◌, refl, subst}
+use Rattle.std.specs.{Box.Ownership.box_owns, declared.alloc.Global.Global}
+use Rattle.std.specs.declared.option.Option.{Option, TheVariants.None, TheVariants.Some}
+use Rattle.std.proofs.alloc.Calls.{Fits, token}
+use Rattle.std.specs.contracts.impls.GlobalAllocator.TheImpl.{ghosts, dict}
+use Rattle.std.proofs.GlobalToken.{dealloc_token-Testable}
+use Rattle.std.proofs.BoxSteps.Form.{Bx, X, R, P, τ, word, handle}
+use Rattle.std.proofs.BoxSteps.Steps.{box_out, box_in}
 use seplogic.Ra.Ura.{Ura}
 use mir.Syntax.{impl, tnil, dnil}
 use mir.Raw.{raw as bare}
@@ -21,17 +28,8 @@ use denote.RawPtr.{Ptr, RawPtr, block_ptr, null_ptr, ptr_val, lies_at, Testable,
 use denote.Steps.{nothing}
 use denote.Struct.Struct.{within}
 use denote.Struct.Owning.{shape}
-use Rattle.std.specs.Box.Ownership.{box_owns}
-use Rattle.std.specs.declared.alloc.Global.{Global}
-use Rattle.std.specs.declared.option.Option.{Option}
-use Rattle.std.specs.declared.option.Option.TheVariants.{None, Some}
 use Rattle.std.specs.contracts.alloc.Global as heap
-use Rattle.std.proofs.alloc.Calls.{Fits, token}
 use Rattle.std.proofs.alloc.Global.TheLaws as heap_laws
-use Rattle.std.specs.contracts.impls.GlobalAllocator.TheImpl.{ghosts, dict}
-use Rattle.std.proofs.GlobalToken.{dealloc_token-Testable}
-use Rattle.std.proofs.BoxSteps.Form.{Bx, X, R, P, τ, word, handle}
-use Rattle.std.proofs.BoxSteps.Steps.{box_out, box_in}
 use Rattle.filterset_c.specs.Owning.{handle_owns}
 use Rattle.filterset_c.specs.contracts.raw_box.RawBox as raw_box
 use Rattle.filterset_c.specs.contracts.object.Object as object

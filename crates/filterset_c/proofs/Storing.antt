@@ -2,10 +2,8 @@
 use Rattle.std.proofs.Common.{◌≡◌, ◌≢◌, ◌∙◌, ℕ, List, ap, arith, inl, inr, refl, subst}
 use Rattle.std.specs.Prelude.{Option, Some, Result, Ok, Err, IfOk, IfErr, IfSome}
 use Rattle.filterset_c.specs.Parsing.{IsOutcome, IsRefused, IsStored, ParsesIn, object_status}
-use Rattle.filterset_c.specs.Statuses.{IsJudged, status_code}
-use Rattle.filterset_c.specs.Workspaces.{HoldsWorkspace}
-use Rattle.filterset_c.specs.declared.failure.Failure.{Failure}
-use Rattle.filterset_c.specs.declared.failure.Failure.TheVariants.{OutOfMemory, Rejected}
+use Rattle.filterset_c.specs.{Statuses.IsJudged, Statuses.status_code, Workspaces.HoldsWorkspace}
+use Rattle.filterset_c.specs.declared.failure.Failure.{Failure, TheVariants.OutOfMemory, TheVariants.Rejected}
 use Rattle.filterset_c.specs.declared.object.Object.{Object}
 use Rattle.filterset_c.specs.declared.object.Object.TheVariants.{Workspace, Filterset, Refused}
 use Rattle.filterset_c.specs.declared.object.Refusal.{Refusal}

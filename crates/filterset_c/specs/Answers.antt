@@ -1,23 +1,16 @@
 -- What C is answered.
 use Rattle.std.specs.Prelude.{◌≡◌, ◌↔◌, ℕ, Bool, true, false, List, Option, None, Some, IsTrue}
-use Rattle.filterset_expression.specs.BinaryMeaning.{IsDefiniteTree}
-use Rattle.filterset_expression.specs.FlatExpressions.{IsFlatOfTree}
+use Rattle.filterset_expression.specs.{BinaryMeaning.IsDefiniteTree, FlatExpressions.IsFlatOfTree}
 use Rattle.filterset_expression.specs.Meaning.{IsCompiled, Meaning}
-use Rattle.filterset_expression.specs.declared.expression.CompiledExpr.{CompiledExpr}
-use Rattle.filterset_expression.specs.declared.flat.FlatExpr.{FlatExpr}
-use Rattle.filterset_expression.specs.declared.query.BinaryQuery.{BinaryQuery}
-use Rattle.filterset_expression.specs.declared.query.TestQuery.{TestQuery}
+use Rattle.filterset_expression.specs.declared.{expression.CompiledExpr.CompiledExpr, flat.FlatExpr.FlatExpr}
+use Rattle.filterset_expression.specs.declared.query.{BinaryQuery.BinaryQuery, TestQuery.TestQuery}
 use Rattle.filterset_faults.specs.declared.span.SourceSpan.{SourceSpan}
-use Rattle.filterset_grammar.specs.Printing.{printed}
-use Rattle.filterset_grammar.specs.Tree.{Tree}
+use Rattle.filterset_grammar.specs.{Printing.printed, Tree.Tree}
 use Rattle.filterset_graph.specs.declared.package.PackageMetadata.{PackageMetadata}
 use Rattle.filterset_language.specs.Views.{tree_of}
 use Rattle.filterset_c.specs.Queries.{matches_named, IsAbout, IsAboutTest}
-use Rattle.filterset_c.specs.declared.object.BoundFilterset.{BoundFilterset}
-use Rattle.filterset_c.specs.declared.object.Object.{Object}
-use Rattle.filterset_c.specs.declared.object.Object.TheVariants.{Filterset}
-use Rattle.filterset_c.specs.declared.queries.Binary.{Binary}
-use Rattle.filterset_c.specs.declared.queries.Test.{Test}
+use Rattle.filterset_c.specs.declared.object.{BoundFilterset.BoundFilterset, Object.Object}
+use Rattle.filterset_c.specs.declared.{object.Object.TheVariants.Filterset, queries.Binary.Binary, queries.Test.Test}
 
 -- the numbers of answers
 abbrev pub yes_or_no : Bool → ℕ

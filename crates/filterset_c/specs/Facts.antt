@@ -1,7 +1,6 @@
 -- That groups are known is a fact.
 use mathlib.Core.Path.{refl}
-use Rattle.nextest_filtering.specs.Groups.{IsKnown}
-use Rattle.nextest_filtering.specs.declared.compile.context.KnownGroups.{KnownGroups}
+use Rattle.nextest_filtering.specs.{Groups.IsKnown, declared.compile.context.KnownGroups.KnownGroups}
 use Rattle.nextest_filtering.specs.declared.compile.context.KnownGroups.TheVariants.{Known, Unavailable}
 
 pub is_known_prop : (groups : KnownGroups) → IsProp (IsKnown groups)

@@ -1,13 +1,9 @@
 -- The faults that a handle holds.
 use Rattle.std.specs.Prelude.{◌≡◌, ◌++◌, ℕ, List, [], Option, None, Some, codes, drop, length, min, option_map, slice_get, suc, take, unwrap_or, zero}
 use Rattle.filterset_faults.specs.Faults.{code_of, span_of, label_of, help_of}
-use Rattle.filterset_faults.specs.Span.{offset_of, length_of}
-use Rattle.filterset_faults.specs.declared.error.ParseSingleError.{ParseSingleError}
-use Rattle.filterset_c.specs.declared.faults.Span.{Span}
-use Rattle.filterset_c.specs.declared.object.Object.{Object}
-use Rattle.filterset_c.specs.declared.object.Object.TheVariants.{Refused}
-use Rattle.filterset_c.specs.declared.object.Refusal.{Refusal}
-use Rattle.filterset_c.specs.declared.object.Refusal.TheVariants.{Faults, TooDeep}
+use Rattle.filterset_faults.specs.{Span.offset_of, Span.length_of, declared.error.ParseSingleError.ParseSingleError}
+use Rattle.filterset_c.specs.declared.{faults.Span.Span, object.Object.Object, object.Object.TheVariants.Refused}
+use Rattle.filterset_c.specs.declared.object.Refusal.{Refusal, TheVariants.Faults, TheVariants.TooDeep}
 
 -- a text that nests too deeply has one fault
 abbrev pub count_of : Refusal → ℕ

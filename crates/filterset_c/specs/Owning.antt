@@ -2,12 +2,9 @@
 use base.Fml.{Fml, feq, fex}
 use base.Stored.{Coded}
 use denote.RawPtr.{Ptr, null_ptr}
-use Rattle.std.specs.contracts.impls.GlobalAllocator.TheImpl.{ghosts}
-use Rattle.std.specs.declared.alloc.Global.{Global}
-use Rattle.std.specs.Coded.{coded_option}
+use Rattle.std.specs.{contracts.impls.GlobalAllocator.TheImpl.ghosts, declared.alloc.Global.Global, Coded.coded_option}
 use Rattle.std.specs.Box.Ownership.{box_owns}
-use Rattle.std.specs.declared.option.Option.{Option}
-use Rattle.std.specs.declared.option.Option.TheVariants.{None, Some}
+use Rattle.std.specs.declared.option.Option.{Option, TheVariants.None, TheVariants.Some}
 use Rattle.filterset_c.specs.contracts.object.Object.{the_row}
 
 abbrev pub handle_owns : Ptr → Option the_row.Denot → Fml

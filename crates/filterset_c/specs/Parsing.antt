@@ -2,28 +2,23 @@
 use Rattle.std.specs.Prelude.{◌≡◌, ◌≢◌, ◌==◌, ◌<◌, ◌≤◌, ◌⊎◌, ℕ, List, Option, None, Some, Result, Ok, Err, String, length, slice_index, string_bytes, if◌then◌else◌}
 use Rattle.std.specs.declared.alloc.Global.{Global}
 use Rattle.filterset_expression.specs.Expression as leaves
-use Rattle.filterset_expression.specs.Expression.{formula}
-use Rattle.filterset_expression.specs.Formula as formulas
-use Rattle.filterset_expression.specs.Meaning.{IsCompiled}
+use Rattle.filterset_expression.specs.{Expression.formula, Meaning.IsCompiled}
 use Rattle.filterset_expression.specs.declared.expression.CompiledExpr.{CompiledExpr}
+use Rattle.filterset_expression.specs.Formula as formulas
 use Rattle.filterset_faults.specs.declared.kind.FiltersetKind.{FiltersetKind}
 use Rattle.filterset_faults.specs.declared.kind.FiltersetKind.TheVariants.{Test, TestArchive, OverrideFilter, DefaultFilter}
 use Rattle.filterset_faults.specs.declared.span.SourceSpan.{SourceSpan}
-use Rattle.filterset_grammar.specs.Grammar.{Spells}
-use Rattle.filterset_grammar.specs.Tree.{Tree}
+use Rattle.filterset_grammar.specs.{Grammar.Spells, Tree.Tree}
 use Rattle.filterset_language.specs.Views.{tree_of}
 use Rattle.filterset_rewriting.specs.Nesting.Depth.{depth}
 use Rattle.nextest_filtering.specs.Compiling.{IsFiltersetOf, IsRefusedWith}
 use Rattle.nextest_filtering.specs.declared.filterset.Filterset.{Filterset}
 use Rattle.filterset_c.specs.Statuses.{status_code}
-use Rattle.filterset_c.specs.declared.failure.Failure.{Failure}
-use Rattle.filterset_c.specs.declared.failure.Failure.TheVariants.{OutOfMemory, Rejected}
-use Rattle.filterset_c.specs.declared.object.Object.{Object}
-use Rattle.filterset_c.specs.declared.object.Object.TheVariants as held
-use Rattle.filterset_c.specs.declared.faults.Span.{Span}
-use Rattle.filterset_c.specs.declared.object.Refusal.{Refusal}
-use Rattle.filterset_c.specs.declared.object.Refusal.TheVariants.{Faults, TooDeep}
+use Rattle.filterset_c.specs.declared.failure.Failure.{Failure, TheVariants.OutOfMemory, TheVariants.Rejected}
+use Rattle.filterset_c.specs.declared.{object.Object.Object, faults.Span.Span}
+use Rattle.filterset_c.specs.declared.object.Refusal.{Refusal, TheVariants.Faults, TheVariants.TooDeep}
 use Rattle.filterset_c.specs.declared.object.Workspace.{Workspace}
+use Rattle.filterset_c.specs.declared.object.Object.TheVariants as held
 
 -- the kind that has this number
 abbrev pub HasKind : ℕ → FiltersetKind → Type 0

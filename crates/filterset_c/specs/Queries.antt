@@ -1,16 +1,10 @@
 -- What C asks about.
-use Rattle.std.specs.Prelude.{◌≡◌, ◌<◌, ℕ, All, List}
-use Rattle.std.specs.Str.{IsUtf8}
+use Rattle.std.specs.{Prelude.◌≡◌, Prelude.◌<◌, Prelude.ℕ, Prelude.All, Prelude.List, Str.IsUtf8}
 use Rattle.filterset_expression.specs.Expression.{Lookup}
-use Rattle.filterset_expression.specs.declared.query.BinaryQuery.{BinaryQuery}
-use Rattle.filterset_expression.specs.declared.query.TestQuery.{TestQuery}
-use Rattle.filterset_graph.specs.declared.package.BuildPlatform.{BuildPlatform}
-use Rattle.filterset_graph.specs.declared.package.BuildPlatform.TheVariants.{Target, Host}
+use Rattle.filterset_expression.specs.declared.query.{BinaryQuery.BinaryQuery, TestQuery.TestQuery}
+use Rattle.filterset_graph.specs.declared.package.BuildPlatform.{BuildPlatform, TheVariants.Target, TheVariants.Host}
 use Rattle.filterset_matchers.specs.Matcher.{MatchesName}
-use Rattle.filterset_c.specs.declared.queries.Binary.{Binary}
-use Rattle.filterset_c.specs.declared.queries.KnownBinary.{KnownBinary}
-use Rattle.filterset_c.specs.declared.queries.KnownTest.{KnownTest}
-use Rattle.filterset_c.specs.declared.queries.Test.{Test}
+use Rattle.filterset_c.specs.declared.queries.{Binary.Binary, KnownBinary.KnownBinary, KnownTest.KnownTest, Test.Test}
 use Rattle.filterset_c.specs.declared.queries.Text.{Text}
 
 -- the platform that has this number

@@ -1,22 +1,17 @@
 -- What makes a workspace, and what changes one.
 use Rattle.std.specs.Prelude.{◌≡◌, ◌⊎◌, ℕ, List, Option, None, Some, option_map, string_bytes}
-use Rattle.serde_json.specs.Data.{Data}
-use Rattle.serde_json.specs.Read.{read}
+use Rattle.serde_json.specs.{Data.Data, Read.read}
 use Rattle.filterset_faults.specs.declared.kind.FiltersetKind.TheVariants.{DefaultFilter}
-use Rattle.filterset_graph.specs.Refusals.{IsRefusalOf}
-use Rattle.filterset_graph.specs.declared.refusal.GraphRefusal.{GraphRefusal}
-use Rattle.filterset_graph.specs.declared.refusal.GraphRefusal.TheVariants as graph
+use Rattle.filterset_graph.specs.{Refusals.IsRefusalOf, declared.refusal.GraphRefusal.GraphRefusal}
 use Rattle.filterset_graph.specs.declared.package.PackageMetadata.{PackageMetadata}
+use Rattle.filterset_graph.specs.declared.refusal.GraphRefusal.TheVariants as graph
 use Rattle.filterset_report.specs.Record.{RecordRow, IsRecord}
 use Rattle.filterset_sources.specs.Metadata.{IsMetadata, RefusesMetadata}
-use Rattle.filterset_sources.specs.declared.refusal.SourceRefusal.{SourceRefusal}
-use Rattle.filterset_sources.specs.declared.refusal.SourceRefusal.TheVariants.{OutOfMemory}
-use Rattle.nextest_filtering.specs.Groups.{AreGroups, IsGlobalOnly}
-use Rattle.nextest_filtering.specs.declared.filterset.Filterset.{Filterset}
+use Rattle.filterset_sources.specs.declared.refusal.SourceRefusal.{SourceRefusal, TheVariants.OutOfMemory}
+use Rattle.nextest_filtering.specs.{Groups.AreGroups, Groups.IsGlobalOnly, declared.filterset.Filterset.Filterset}
 use Rattle.filterset_c.specs.Parsing.{IsFiltersetWithin}
-use Rattle.filterset_c.specs.declared.object.Object.{Object}
+use Rattle.filterset_c.specs.declared.object.{Object.Object, Workspace.Workspace}
 use Rattle.filterset_c.specs.declared.object.Object.TheVariants as held
-use Rattle.filterset_c.specs.declared.object.Workspace.{Workspace}
 
 -- the limit of levels of a workspace that is not told otherwise
 abbrev pub usual_depth : ℕ

@@ -1,10 +1,8 @@
 -- What calls write where C says.
 use Rattle.std.specs.Prelude.{◌≡◌, ◌≢◌, ◌⊎◌, ℕ, List, Result, Ok, Err, String, Vec, length, string_bytes}
 use Rattle.std.specs.declared.alloc.Global.{Global}
-use Rattle.filterset_c.specs.Faulty.{written}
-use Rattle.filterset_c.specs.Statuses.{status_code}
-use Rattle.filterset_c.specs.declared.failure.Failure.{Failure}
-use Rattle.filterset_c.specs.declared.failure.Failure.TheVariants.{InvalidArgument}
+use Rattle.filterset_c.specs.{Faulty.written, Statuses.status_code}
+use Rattle.filterset_c.specs.declared.failure.Failure.{Failure, TheVariants.InvalidArgument}
 
 -- the number is written, or the call failed and nothing is
 abbrev pub IsWritten : Result ℕ Failure → ℕ → ℕ → ℕ → Type 0

@@ -1,10 +1,7 @@
 //! What C holds: the address of a box, or null.
-ghost use Rattle.std.specs.Prelude.{◌≡◌};
-ghost use Rattle.std.specs.Option.{MatchOption};
-ghost use Rattle.std.specs.declared.option.Option.{Option};
-ghost use Rattle.std.specs.declared.option.Option.TheVariants.{None, Some};
-ghost use Rattle.filterset_c.specs.declared.object.Object.{Object};
-ghost use Rattle.filterset_c.specs.Owning.{held_coded, handle_owns};
+ghost use Rattle.std.specs.{Prelude.◌≡◌, Option.MatchOption};
+ghost use Rattle.std.specs.declared.option.Option.{Option, TheVariants.None, TheVariants.Some};
+ghost use Rattle.filterset_c.specs.{declared.object.Object.Object, Owning.held_coded, Owning.handle_owns};
 
 use crate::object::Object;
 use crate::raw_box::RawBox;

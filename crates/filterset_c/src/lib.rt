@@ -6,8 +6,7 @@
 #![tactic(auto)]
 
 ghost use Rattle.std.specs.Prelude.{◌≡◌, ◌≢◌, ◌<◌, ◌≤◌, All, Err, MatchOption, Some, None, IfErr, IfOk, IsSome, length, map, string_bytes};
-ghost use Rattle.std.specs.List.{AllZip};
-ghost use Rattle.std.specs.Str.{IsUtf8};
+ghost use Rattle.std.specs.{List.AllZip, Str.IsUtf8};
 ghost use Rattle.filterset_expression.specs.Expression.{has_leaf, is_group};
 ghost use Rattle.filterset_c.specs.Answers.{yes_or_no, HoldsFilterset, IsBinaryNumber, IsFilterset, IsNoFilterset, IsPrint, IsTestNumber};
 ghost use Rattle.filterset_c.specs.Faulty.{IsSpanAt, IsTextAt, fault_count};

@@ -1,12 +1,11 @@
 //! Parses filtersets.
 ghost use Rattle.std.specs.Prelude.{◌≡◌, ◌≢◌, ◌<◌, ◌≤◌, false, Err, IfErr, IfNone, IfOk, IfSome, Some};
+ghost use Rattle.std.specs.Str.{IsUtf8};
 ghost use Rattle.filterset_expression.specs.Expression.{has_leaf, is_default, is_group};
 ghost use Rattle.filterset_faults.specs.declared.span.SourceSpan.{SourceSpan};
-ghost use Rattle.filterset_grammar.specs.Grammar.{Spells};
-ghost use Rattle.filterset_grammar.specs.Tree.{Tree};
+ghost use Rattle.filterset_grammar.specs.{Grammar.Spells, Tree.Tree};
 ghost use Rattle.filterset_rewriting.specs.Nesting.Depth.{depth};
 ghost use Rattle.filterset_c.specs.Parsing.{HasKind, IsAccepted, IsDefaultFilter, IsFiltersetWithin, IsRefused, IsTooDeep, IsWithin, ParsesIn};
-ghost use Rattle.std.specs.Str.{IsUtf8};
 ghost use Rattle.filterset_c.specs.Workspaces.{IsNoWorkspace, IsWorkspace};
 ghost use Rattle.filterset_c.specs.declared.failure.Failure.TheVariants as failures;
 ghost use Rattle.filterset_faults.specs.declared.kind.FiltersetKind.TheVariants as kinds;

@@ -3,8 +3,7 @@ ghost use Rattle.std.specs.Prelude.{◌≡◌, ◌≤◌, ◌<◌, ◌↔◌, Al
 ghost use Rattle.std.specs.Str.{IsUtf8};
 ghost use Rattle.filterset_c.specs.Queries.{matches_named, AreTexts, HasPlatform, HasTexts, IsAbout, IsKnownBinary, IsText, IsWellBinary, IsWellTest};
 ghost use Rattle.filterset_c.specs.declared.failure.Failure.TheVariants.{InvalidArgument, NotUtf8, OutOfMemory};
-ghost use Rattle.filterset_c.specs.declared.queries.Binary.{Binary as BinaryOfC};
-ghost use Rattle.filterset_c.specs.declared.queries.Test.{Test as TestOfC};
+ghost use Rattle.filterset_c.specs.declared.queries.{Binary.Binary as BinaryOfC, Test.Test as TestOfC};
 
 use crate::failure::Failure;
 use nextest_filtering::{

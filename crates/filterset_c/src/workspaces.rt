@@ -1,16 +1,12 @@
 //! Makes workspaces, and changes them.
 ghost use Rattle.std.specs.Prelude.{◌≡◌, ◌≢◌, ◌⊎◌, All, Err, None, Some, IfErr, IfNone, IfOk, IfSome, OnOk, map, string_bytes};
 ghost use Rattle.std.specs.Str.{IsUtf8};
-ghost use Rattle.serde_json.specs.Read.{read};
-ghost use Rattle.serde_json.specs.View.{view};
+ghost use Rattle.serde_json.specs.{Read.read, View.view};
 ghost use Rattle.filterset_faults.specs.declared.kind.FiltersetKind.TheVariants as kinds;
-ghost use Rattle.filterset_report.specs.Record.{IsRecord, RecordRow};
-ghost use Rattle.filterset_report.specs.Rows.{record_row};
+ghost use Rattle.filterset_report.specs.{Record.IsRecord, Record.RecordRow, Rows.record_row};
 ghost use Rattle.filterset_sources.specs.Metadata.{IsMetadata};
 ghost use Rattle.nextest_filtering.specs.Groups.{AreGroups, IsKnown};
-ghost use Rattle.filterset_c.specs.Parsing.{IsRefused};
-ghost use Rattle.filterset_c.specs.Queries.{IsText};
-ghost use Rattle.filterset_c.specs.Statuses.{IsSourceFailure};
+ghost use Rattle.filterset_c.specs.{Parsing.IsRefused, Queries.IsText, Statuses.IsSourceFailure};
 ghost use Rattle.filterset_c.specs.Workspaces.{Changes, HasDepth, HasFilter, HasGroups, HoldsWorkspace, IsFault, IsNoGraph, IsNoGraphOf, IsNoMetadata, IsNoRecord, IsNoWorkspace, IsOfMetadata, IsOfRecord, IsWorkspace};
 ghost use Rattle.filterset_c.specs.declared.failure.Failure.TheVariants as failures;
 

@@ -1,15 +1,11 @@
 -- Bits of words.
 use Rattle.std.proofs.Common.{◌≡◌, ℕ, zero, suc, ◌+◌, ◌<◌, ◌/◌, ◌%◌, ◌^◌, ◌-◌, min, max, Bool, true, false, not, ◌||◌, ◌&&◌, ◌==◌, List, length, get_or, slice_index, slice_set, set, bit_and, bit_or, bit_xor, refl, sym, ap, ◌∙◌, arith, inl, inr, get_or-set_other, get_or-set_same, ◌≤◌, w64, add-zero, zero-add}
-use Rattle.std.specs.Int.{bit_at, trailing_ones, trailing_zeros}
-use Rattle.std.specs.Bool.{beq}
 use Rattle.std.proofs.Math.Bool.{or_comm}
-use Rattle.std.proofs.Math.Nat.{div-add-mod, div-div-eq-div-mul, div-one, pow-succ'}
-use Rattle.std.proofs.lemmas.Bool.{cases_eq, cases_lt, eq-eqb, ne_eqb}
-use Rattle.std.proofs.lemmas.Bool.Decides.{nat_tests}
-use Rattle.std.specs.Int.Bits.{xor_add_and}
+use Rattle.std.proofs.Math.Nat.{div-add-mod, div-div-eq-div-mul, div-one, pow-succ', mod-eq_of_lt}
+use Rattle.std.proofs.lemmas.Bool.{cases_eq, cases_lt, eq-eqb, ne_eqb, Decides.nat_tests}
 use Rattle.std.proofs.lemmas.Nat.{and_mask}
-use Rattle.std.proofs.Math.Nat.{mod-eq_of_lt}
 use Rattle.std.proofs.lemmas.Nat.Bits.{bit_at_and, bit_at_or, bit_at_xor, bit_at-pow_same, bit_at-pow_other, bit_at-lt, bit_at-suc, bit_at-trailing_ones, bit_at-trailing_zeros, bit_at-zero, bit_at_ones, shr_and_one}
+use Rattle.std.specs.{Bool.beq, Int.bit_at, Int.trailing_ones, Int.trailing_zeros, Int.Bits.xor_add_and}
 use Rattle.filterset_columns.specs.Bits.{bit_of}
 
 min_bits : (a b : ℕ) → a < 2 → b < 2 → (min a b == 1) ≡ (a == 1 && b == 1)

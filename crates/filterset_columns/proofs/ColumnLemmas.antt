@@ -1,22 +1,16 @@
 -- Columns that are answered item by item.
 use Rattle.std.proofs.Common.{◌≡◌, ◌↔◌, ◌+◌, ◌<◌, ℕ, zero, suc, [], ◌∷◌, Bool, true, false, ◌&&◌, ◌||◌, ◌==◌, IsTrue, List, length, not, refl, sym, ap, subst, ◌∙◌, ◌≤◌, ⊎_elim, inl, inr, arith, All, Bor, IfSome, None, Option, Some}
 use Rattle.std.proofs.Math.Bool.{or-false}
-use Rattle.std.proofs.lemmas.Bool.{cases_eq, cases_lt, eq-eqb, ne_eqb}
-use Rattle.std.proofs.lemmas.List.{get_or_read}
-use Rattle.std.proofs.lemmas.List.Elements.{All-get_or}
-use Rattle.std.proofs.lemmas.List.Folds.{list_any_at}
-use Rattle.std.proofs.lemmas.Slice.Eq.{bytes_eq-Decides}
-use Rattle.std.specs.List.{list_any}
-use Rattle.std.specs.Slice.{IsItemAt}
-use Rattle.std.specs.Str.{bytes_eq}
+use Rattle.std.proofs.lemmas.{Bool.cases_eq, Bool.cases_lt, Bool.eq-eqb, Bool.ne_eqb, List.get_or_read}
+use Rattle.std.proofs.lemmas.{List.Elements.All-get_or, List.Folds.list_any_at, Slice.Eq.bytes_eq-Decides}
+use Rattle.std.specs.{List.list_any, Slice.IsItemAt, Str.bytes_eq}
 use Rattle.filterset_columns.specs.Bits.{bit_of}
+use Rattle.filterset_columns.specs.Columns.{answer_of, Answered, AnsweredWhere, IsAt}
+use Rattle.filterset_columns.specs.{Searching.AnsweredSoFar, declared.column.Column.Column}
 use Rattle.filterset_expression.specs.Connectives.{Connects, Decides, connected}
 use Rattle.filterset_expression.specs.declared.logic.Connective.{Connective}
 use Rattle.filterset_expression.specs.declared.logic.Connective.TheVariants.{Conjunction, Disjunction, ExclusiveDisjunction}
 use Rattle.filterset_expression.proofs.Connectives.{connected_decides}
-use Rattle.filterset_columns.specs.Columns.{answer_of, Answered, AnsweredWhere, IsAt}
-use Rattle.filterset_columns.specs.Searching.{AnsweredSoFar}
-use Rattle.filterset_columns.specs.declared.column.Column.{Column}
 
 -- one item is at a position
 one_item : {A : Type 0} (items : List A) (n : ℕ) (x y : A) → IsAt items n x → IsAt items n y → x ≡ y

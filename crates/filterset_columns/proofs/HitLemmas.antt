@@ -1,27 +1,18 @@
 -- Names in the text of all names.
 use Rattle.std.proofs.Common.{◌≡◌, ◌+◌, ◌-◌, ◌<◌, ◌≤◌, ◌==◌, ◌&&◌, ◌||◌, ℕ, List, [], ◌∷◌, ◌++◌, length, take, drop, get_or, refl, ap, sym, subst, ◌∙◌, ⊎_elim, inl, inr, arith, string_bytes}
-use Rattle.std.specs.Borrow.{Bor}
-use Rattle.std.specs.Str.Iter.{HasSubslice}
-use Rattle.std.proofs.Math.Seq.{take-add, take-length}
-use Rattle.std.proofs.lemmas.Bool.{cases_lt, le-leb, leb-true}
-use Rattle.std.proofs.Math.Dec.{leb}
-use Rattle.std.proofs.lemmas.Grind.{flat_map-append, same_number_lists}
+use Rattle.std.proofs.Math.{Dec.leb, Seq.take-add, Seq.take-length}
+use Rattle.std.proofs.lemmas.{Bool.cases_lt, Bool.le-leb, Bool.leb-true, Grind.flat_map-append, Grind.same_number_lists}
 use Rattle.std.proofs.lemmas.List.{append-nil, get_or-drop, get_or-take, length-append, length-drop, length-take-le, take_more, take_rest}
-use Rattle.std.proofs.lemmas.List.Concat.{get_or-flat_map}
-use Rattle.std.proofs.lemmas.List.Folds.{length-flat_map-take}
+use Rattle.std.proofs.lemmas.List.{Concat.get_or-flat_map, Folds.length-flat_map-take}
+use Rattle.std.specs.{Borrow.Bor, Str.Iter.HasSubslice}
 use Rattle.filterset_graph.specs.declared.binary.TestCaseName.{TestCaseName}
 use Rattle.filterset_matchers.specs.Substring.{StandsAt}
 use Rattle.filterset_matchers.proofs.Substrings.{byte_of, empty_of, somewhere_stands, stands_somewhere}
 use Rattle.memchr.specs.Find.{OccursAt, NoneBefore, Nowhere}
-use Rattle.filterset_columns.specs.Bits.{bit_of}
-use Rattle.filterset_columns.specs.Columns.{names_of, IsAt}
-use Rattle.filterset_columns.specs.Searching.{AnsweredSoFar}
+use Rattle.filterset_columns.specs.{Bits.bit_of, Columns.names_of, Columns.IsAt, Searching.AnsweredSoFar}
 use Rattle.filterset_columns.proofs.ColumnLemmas.{more_answered, passed_over, some_item}
-use Rattle.filterset_columns.specs.Hits.{IsNextHit, IsPlace, NoneHas}
-use Rattle.filterset_columns.specs.declared.hits.Hit.{Hit}
-use Rattle.filterset_columns.specs.declared.hits.Place.{Place}
-use Rattle.filterset_columns.specs.declared.names.Names.{Names}
-use Rattle.filterset_columns.specs.Joined.{joined, offset}
+use Rattle.filterset_columns.specs.{Hits.IsNextHit, Hits.IsPlace, Hits.NoneHas, declared.hits.Hit.Hit}
+use Rattle.filterset_columns.specs.{declared.hits.Place.Place, declared.names.Names.Names, Joined.joined, Joined.offset}
 
 bytes_of : Bor TestCaseName → List ℕ
 bytes_of name = name.now

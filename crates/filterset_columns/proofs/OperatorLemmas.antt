@@ -1,13 +1,11 @@
 -- Operators without their first operands.
 use Rattle.std.proofs.Common.{◌≡◌, ◌<◌, ◌≤◌, ◌++◌, ◌∙◌, List, [], ◌∷◌, Bor, length, length-append, refl, sym, ap, arith}
-use Rattle.filterset_expression.specs.declared.logic.Connective.{Connective}
 use Rattle.filterset_expression.specs.Expression.{CompiledLeaf, formula}
 use Rattle.filterset_expression.specs.Formula.{Formula, Leaf, Compound, leaves}
+use Rattle.filterset_expression.specs.declared.{expression.CompiledExpr.CompiledExpr, logic.Connective.Connective}
 use Rattle.filterset_expression.specs.Formula as formulas
-use Rattle.filterset_expression.specs.declared.expression.CompiledExpr.{CompiledExpr}
 use Rattle.filterset_columns.specs.Operators.{applied}
-use Rattle.filterset_columns.specs.declared.operators.Operator.{Operator}
-use Rattle.filterset_columns.specs.declared.operators.Operator.TheVariants.{Negation, Binary}
+use Rattle.filterset_columns.specs.declared.operators.Operator.{Operator, TheVariants.Negation, TheVariants.Binary}
 
 -- the last operator is the innermost
 pub applied_last : (ops : List Operator) (op : Operator) (f : Formula CompiledLeaf) → applied (ops ++ op ∷ []) f ≡ applied ops (applied (op ∷ []) f)

@@ -1,8 +1,7 @@
 -- Answers for a list of tests.
 use Rattle.std.specs.Prelude.{◌≡◌, ◌+◌, ◌/◌, ℕ, Bool, vec_len}
 use Rattle.filterset_columns.specs.Bits.{bit_of}
-use Rattle.filterset_columns.specs.declared.column.Answers.{Answers}
-use Rattle.filterset_columns.specs.declared.column.Answers.TheVariants.{Same, Each}
+use Rattle.filterset_columns.specs.declared.column.Answers.{Answers, TheVariants.Same, TheVariants.Each}
 
 -- the answer at a position: the same at all of them, or a bit of a word
 abbrev pub answer_at : Answers → ℕ → Bool

@@ -1,15 +1,11 @@
 -- Columns of answers, and what each answer is about.
 use Rattle.std.specs.Prelude.{◌≡◌, ◌<◌, ◌↔◌, ℕ, Bool, IsTrue, List, length, slice_index_or}
 use Rattle.std.specs.Borrow.{Bor}
-use Rattle.filterset_expression.specs.declared.query.BinaryQuery.{BinaryQuery}
-use Rattle.filterset_expression.specs.declared.query.TestQuery.{TestQuery}
+use Rattle.filterset_expression.specs.declared.query.{BinaryQuery.BinaryQuery, TestQuery.TestQuery}
+use Rattle.filterset_expression.specs.{Contexts.default_of, declared.expression.CompiledExpr.CompiledExpr}
 use Rattle.filterset_graph.specs.declared.binary.TestCaseName.{TestCaseName}
 use Rattle.filterset_columns.specs.Answers.{answer_at}
-use Rattle.filterset_columns.specs.declared.column.Column.{Column}
-use Rattle.filterset_columns.specs.declared.expression.ColumnExpr.{ColumnExpr}
-use Rattle.filterset_columns.specs.declared.names.Names.{Names}
-use Rattle.filterset_expression.specs.Contexts.{default_of}
-use Rattle.filterset_expression.specs.declared.expression.CompiledExpr.{CompiledExpr}
+use Rattle.filterset_columns.specs.declared.{column.Column.Column, expression.ColumnExpr.ColumnExpr, names.Names.Names}
 
 -- the answer of a column at a position
 abbrev pub answer_of : Column → ℕ → Bool

@@ -1,14 +1,10 @@
 -- Tests with their groups.
-use Rattle.std.specs.Prelude.{◌≡◌, ◌↔◌, IsTrue}
-use Rattle.std.specs.Borrow.{Bor}
-use Rattle.filterset_expression.specs.Expression.{Lookup}
-use Rattle.filterset_expression.specs.declared.query.BinaryQuery.{BinaryQuery}
+use Rattle.std.specs.{Prelude.◌≡◌, Prelude.◌↔◌, Prelude.IsTrue, Borrow.Bor}
+use Rattle.filterset_expression.specs.{Expression.Lookup, declared.query.BinaryQuery.BinaryQuery}
 use Rattle.filterset_graph.specs.declared.binary.TestCaseName.{TestCaseName}
-use Rattle.filterset_matchers.specs.Matcher.{Matcher, MatchesName}
-use Rattle.filterset_matchers.specs.Matchers.{matcher_of}
+use Rattle.filterset_matchers.specs.{Matcher.Matcher, Matcher.MatchesName, Matchers.matcher_of}
 use Rattle.filterset_columns.specs.Columns.{test_of}
-use Rattle.filterset_columns.specs.declared.groups.GroupMatcher.{GroupMatcher}
-use Rattle.filterset_columns.specs.declared.groups.GroupedTest.{GroupedTest}
+use Rattle.filterset_columns.specs.declared.groups.{GroupMatcher.GroupMatcher, GroupedTest.GroupedTest}
 
 -- the binary's test with this name is in this group
 abbrev pub IsGrouped : Lookup → BinaryQuery → GroupedTest → Type 0

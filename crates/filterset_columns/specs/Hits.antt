@@ -1,13 +1,9 @@
 -- What a search over the text of all names finds.
 use Rattle.std.specs.Prelude.{◌≡◌, ◌↔◌, ◌<◌, ◌≤◌, ◌+◌, ℕ, IsTrue, List, length}
-use Rattle.std.specs.Borrow.{Bor}
-use Rattle.std.specs.Str.Iter.{HasSubslice}
+use Rattle.std.specs.{Borrow.Bor, Str.Iter.HasSubslice}
 use Rattle.filterset_graph.specs.declared.binary.TestCaseName.{TestCaseName}
-use Rattle.filterset_columns.specs.Columns.{names_of, IsAt}
-use Rattle.filterset_columns.specs.Joined.{offset}
-use Rattle.filterset_columns.specs.declared.hits.Hit.{Hit}
-use Rattle.filterset_columns.specs.declared.hits.Place.{Place}
-use Rattle.filterset_columns.specs.declared.names.Names.{Names}
+use Rattle.filterset_columns.specs.{Columns.names_of, Columns.IsAt, Joined.offset}
+use Rattle.filterset_columns.specs.declared.{hits.Hit.Hit, hits.Place.Place, names.Names.Names}
 
 -- the place is where a name begins, or the last one ends
 abbrev pub IsPlace : Names → Place → Type 0

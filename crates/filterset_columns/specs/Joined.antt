@@ -1,7 +1,5 @@
 -- Names that stand one after the other.
-use Rattle.std.specs.Prelude.{ℕ, List, length, take}
-use Rattle.std.specs.Borrow.{Bor}
-use Rattle.std.specs.List.{flat_map}
+use Rattle.std.specs.{Prelude.ℕ, Prelude.List, Prelude.length, Prelude.take, Borrow.Bor, List.flat_map}
 use Rattle.filterset_graph.specs.declared.binary.TestCaseName.{TestCaseName}
 
 -- the names, one after the other

@@ -1,10 +1,8 @@
 -- Operators without their first operands.
 use Rattle.std.specs.Prelude.{List, [], ◌∷◌}
-use Rattle.filterset_expression.specs.Expression.{CompiledLeaf, formula}
-use Rattle.filterset_expression.specs.Formula.{Formula, Compound}
+use Rattle.filterset_expression.specs.{Expression.CompiledLeaf, Expression.formula, Formula.Formula, Formula.Compound}
 use Rattle.filterset_expression.specs.Formula as formulas
-use Rattle.filterset_columns.specs.declared.operators.Operator.{Operator}
-use Rattle.filterset_columns.specs.declared.operators.Operator.TheVariants.{Negation, Binary}
+use Rattle.filterset_columns.specs.declared.operators.Operator.{Operator, TheVariants.Negation, TheVariants.Binary}
 
 -- the formula under these operators, of which the first is the outermost
 abbrev pub applied : List Operator → Formula CompiledLeaf → Formula CompiledLeaf

@@ -1,12 +1,8 @@
 -- What prepared matchers find.
 use Rattle.std.specs.Prelude.{◌≡◌, ◌↔◌, ◌<◌, ◌≤◌, ℕ, false, IsTrue, List, chars}
 use Rattle.filterset_glob.specs.Matching.{Matches}
-use Rattle.filterset_matchers.specs.Matcher.{MatchesName}
-use Rattle.filterset_matchers.specs.Matchers.{matcher_of}
-use Rattle.filterset_matchers.specs.Pattern.{HasMatch}
-use Rattle.filterset_columns.specs.Bits.{bit_of}
-use Rattle.filterset_columns.specs.Columns.{IsAt}
-use Rattle.filterset_columns.specs.declared.search.Searcher.{Searcher}
+use Rattle.filterset_matchers.specs.{Matcher.MatchesName, Matchers.matcher_of, Pattern.HasMatch}
+use Rattle.filterset_columns.specs.{Bits.bit_of, Columns.IsAt, declared.search.Searcher.Searcher}
 use Rattle.filterset_columns.specs.declared.search.Searcher.TheVariants.{Plain, Glob, Pattern}
 
 -- the prepared matcher finds what it searches for in this name

@@ -1,8 +1,7 @@
 //! Columns of answers.
 ghost use Rattle.std.specs.Prelude.{◌≡◌, ◌↔◌, ◌<◌, ◌≤◌, ◌+◌, ◌*◌, ◌/◌, ◌&&◌, ℕ, Bool, not, IfOk, IsTrue, vec_len};
-ghost use Rattle.filterset_columns.specs.Bits.{bit_of};
+ghost use Rattle.filterset_columns.specs.{Bits.bit_of, Answers.answer_at, Answers.HasRoom};
 ghost use Rattle.filterset_expression.specs.Connectives.{connected};
-ghost use Rattle.filterset_columns.specs.Answers.{answer_at, HasRoom};
 
 use crate::bits::Bits;
 use filterset_expression::Connective;

@@ -1,8 +1,7 @@
 //! Evaluates expressions for all tests of a binary at once.
 ghost use Rattle.std.specs.Prelude.{◌≡◌, ◌<◌, ◌↔◌, true, false, IfOk, IsTrue, length, ℕ};
 ghost use Rattle.filterset_expression.specs.Connectives.{Decides};
-ghost use Rattle.filterset_expression.specs.Expression.{compiled_leaf, formula, leaf_with_default, with_default};
-ghost use Rattle.filterset_expression.specs.Expression.{HoldsOfBinary, HoldsOfTest};
+ghost use Rattle.filterset_expression.specs.Expression.{compiled_leaf, formula, leaf_with_default, with_default, HoldsOfBinary, HoldsOfTest};
 ghost use Rattle.filterset_expression.specs.Formula.{TrueWhere};
 ghost use Rattle.filterset_columns.specs.Columns.{answer_of, names_of, test_of, Answered, AnsweredWhere};
 

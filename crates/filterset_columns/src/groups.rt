@@ -1,7 +1,6 @@
 //! Lookups of the groups of a binary's tests.
 ghost use Rattle.std.specs.Prelude.{◌≡◌, ◌↔◌, All, IfOk, IsTrue};
-ghost use Rattle.filterset_matchers.specs.Matcher.{MatchesName};
-ghost use Rattle.filterset_matchers.specs.Matchers.{matcher_of};
+ghost use Rattle.filterset_matchers.specs.{Matcher.MatchesName, Matchers.matcher_of};
 ghost use Rattle.filterset_columns.specs.Grouped.{IsGrouped};
 
 use filterset_expression::{BinaryQuery, TestQuery};

@@ -1,8 +1,6 @@
 //! One search over the text of all names, whose matches are put to names.
 ghost use Rattle.std.specs.Prelude.{◌≡◌, ◌<◌, ◌≤◌, ◌+◌, MatchOption, length, string_bytes};
-ghost use Rattle.filterset_columns.specs.Columns.{names_of};
-ghost use Rattle.filterset_columns.specs.Hits.{IsNextHit, IsPlace, NoneHas};
-ghost use Rattle.filterset_columns.specs.Joined.{offset};
+ghost use Rattle.filterset_columns.specs.{Columns.names_of, Hits.IsNextHit, Hits.IsPlace, Hits.NoneHas, Joined.offset};
 
 use crate::names::Names;
 use memchr::memmem::Finder;

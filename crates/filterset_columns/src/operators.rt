@@ -1,7 +1,6 @@
 //! The operators above the first leaf of an expression.
 ghost use Rattle.std.specs.Prelude.{◌≡◌, IfOk};
-ghost use Rattle.filterset_expression.specs.Expression.{compiled_leaf, formula};
-ghost use Rattle.filterset_expression.specs.Formula.{Leaf};
+ghost use Rattle.filterset_expression.specs.{Expression.compiled_leaf, Expression.formula, Formula.Leaf};
 ghost use Rattle.filterset_columns.specs.Operators.{applied};
 
 use filterset_expression::{CompiledExpr, Connective, FiltersetLeaf};

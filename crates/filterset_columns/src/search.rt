@@ -1,13 +1,9 @@
 //! Searches of names for a matcher.
 ghost use Rattle.std.specs.Prelude.{◌≡◌, ◌↔◌, ◌<◌, ◌+◌, ◌/◌, [], List, ℕ, IfOk, IfSome, IsTrue, length, vec_len};
-ghost use Rattle.std.specs.List.{list_any};
-ghost use Rattle.std.specs.Str.{bytes_eq};
-ghost use Rattle.std.specs.Str.Iter.{HasSubslice};
-ghost use Rattle.filterset_matchers.specs.Matcher.{MatchesName};
-ghost use Rattle.filterset_matchers.specs.Matchers.{matcher_of};
+ghost use Rattle.std.specs.{List.list_any, Str.bytes_eq, Str.Iter.HasSubslice};
+ghost use Rattle.filterset_matchers.specs.{Matcher.MatchesName, Matchers.matcher_of};
 ghost use Rattle.filterset_columns.specs.Columns.{names_of, test_of, Answered, AnsweredWhere};
-ghost use Rattle.filterset_columns.specs.Grouped.{IsGrouped, Knows};
-ghost use Rattle.filterset_columns.specs.Searching.{AnsweredSoFar};
+ghost use Rattle.filterset_columns.specs.{Grouped.IsGrouped, Grouped.Knows, Searching.AnsweredSoFar};
 
 use crate::bits::Bits;
 use crate::column::Column;

@@ -2,11 +2,9 @@
 use Rattle.std.proofs.Common.{◌≡◌, ℕ, zero, suc, ◌+◌, ◌<◌, Bool, true, false, List, [], ◌∷◌, ◌++◌, length, get_or, set, Option, Some, None, string_bytes, length-append, append_assoc, arith, refl, ap, sym, subst, ◌∙◌, ⊎_elim}
 use Rattle.std.specs.Prelude.{IfSome, IsTrue, String, alloc_error, option_and_then, slice_get}
 use Rattle.std.specs.declared.alloc.Global.{Global}
-use Rattle.std.proofs.lemmas.Bool.{cases_eq, false≢true}
-use Rattle.std.proofs.lemmas.List.{get_or_default, get_or-set_other}
+use Rattle.std.proofs.lemmas.{Bool.cases_eq, Bool.false≢true, List.get_or_default, List.get_or-set_other}
 use Rattle.filterset_json.specs.Shape.{Text}
-use Rattle.filterset_configuration.specs.Names.{is_built_in}
-use Rattle.filterset_configuration.specs.Paths.{profile_path}
+use Rattle.filterset_configuration.specs.{Names.is_built_in, Paths.profile_path}
 use Rattle.filterset_configuration.specs.Lineages.{IsLineageFault, IsMissing, Leads, Lineage, named, parent}
 use Rattle.filterset_configuration.specs.declared.fault.LineageFault.{LineageFault}
 use Rattle.filterset_configuration.specs.declared.fault.LineageFault.TheVariants.{NoProfile, NoParent, Cycle, OutOfMemory}

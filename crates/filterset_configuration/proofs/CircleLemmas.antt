@@ -1,31 +1,21 @@
 -- Circles of names, by the positions of names.
 use Rattle.std.proofs.Common.{◌≡◌, ◌≢◌, ◌<◌, ◌⊎◌, ◌↔◌, inl, inr, ℕ, zero, suc, Bool, true, false, List, [], ◌∷◌, None, Option, Some, String, ⊎_elim, ap, arith, length, map, refl, string_bytes, sym, ◌∙◌}
 use Rattle.std.specs.Prelude.{IsSome, bytes_eq, option_and_then, option_copied, option_map, slice_get}
-use Rattle.std.specs.Borrow.{Bor}
-use Rattle.std.specs.BTreeMap.{BTreeMap}
-use Rattle.std.specs.Cmp.Lexicographic.{slice_cmp}
-use Rattle.std.specs.List.{AllByRecursion}
-use Rattle.std.specs.List.Sorted.{IsStrictlySortedBy}
-use Rattle.std.specs.Map.{keys_of as keys_in}
+use Rattle.std.specs.{Borrow.Bor, BTreeMap.BTreeMap, Cmp.Lexicographic.slice_cmp, List.AllByRecursion}
+use Rattle.std.specs.{List.Sorted.IsStrictlySortedBy, Map.keys_of as keys_in}
 use Rattle.std.specs.Ordering.{is_eq, match_ordering, nat_cmp}
-use Rattle.std.specs.String.{string_cmp}
-use Rattle.std.specs.declared.alloc.Global.{Global}
-use Rattle.std.specs.declared.cmp.Ordering.{Ordering}
+use Rattle.std.specs.{String.string_cmp, declared.alloc.Global.Global, declared.cmp.Ordering.Ordering}
 use Rattle.std.specs.declared.cmp.Ordering.TheVariants.{Equal, Greater, Less}
-use Rattle.std.proofs.lemmas.List.{length-map}
-use Rattle.std.proofs.lemmas.Map.Text.{is_eq-slice_cmp}
-use Rattle.std.proofs.lemmas.Option.{same_Some, slice_get-map}
-use Rattle.std.proofs.lemmas.Simd.{map-map}
-use Rattle.std.proofs.lemmas.Slice.Eq.{bytes_eq-Decides}
-use Rattle.toml.specs.Data.{Data, Members, member, no_members, get_member}
-use Rattle.toml.specs.View.{members_view}
+use Rattle.std.proofs.lemmas.{List.length-map, Map.Text.is_eq-slice_cmp, Option.same_Some, Option.slice_get-map}
+use Rattle.std.proofs.lemmas.{Simd.map-map, Slice.Eq.bytes_eq-Decides}
+use Rattle.toml.specs.{Data.Data, Data.Members, Data.member, Data.no_members, Data.get_member, View.members_view}
 use Rattle.toml.proofs.Views.{Entry}
 use Rattle.filterset_json.specs.Shape.{Text}
 use Rattle.filterset_configuration.specs.Circles.{AreDistinct, IsIndex, IsProfileInCircle, after, fallback, fallback_of, link_row, links_of, position_of}
 use Rattle.filterset_configuration.specs.Leads.{AreFar, LeadsBack, MarksEnds, lead, lead_after}
-use Rattle.filterset_sources.specs.Configurations.{keys_of}
 use Rattle.filterset_configuration.specs.declared.circles.Link.{Link}
 use Rattle.filterset_configuration.proofs.LeadLemmas.{far_all, far_exactly, lead_within, through}
+use Rattle.filterset_sources.specs.Configurations.{keys_of}
 
 -- ---- names are distinct
 

@@ -1,17 +1,12 @@
 -- The marks of positions that others lead to, and the index of names.
 use Rattle.std.proofs.Common.{◌≡◌, ◌<◌, ◌≤◌, ◌+◌, ◌++◌, ℕ, zero, suc, Bool, true, false, List, [], ◌∷◌, Option, Some, ◌⊎◌, inl, inr, ⊎_elim, ap, arith, cond, length, refl, replicate, sym, take, ◌∙◌}
-use Rattle.std.specs.Prelude.{◌↔◌, IsSome, bytes_eq, slice_get}
-use Rattle.std.specs.Borrow.{Bor}
-use Rattle.std.specs.BTreeMap.{BTreeMap}
-use Rattle.std.proofs.lemmas.Bool.{cases_eq}
-use Rattle.std.proofs.lemmas.List.{take-append-le, take_all}
-use Rattle.std.proofs.lemmas.Option.{same_Some}
+use Rattle.std.specs.{Prelude.◌↔◌, Prelude.IsSome, Prelude.bytes_eq, Prelude.slice_get, Borrow.Bor, BTreeMap.BTreeMap}
+use Rattle.std.proofs.lemmas.{Bool.cases_eq, List.take-append-le, List.take_all, Option.same_Some}
 use Rattle.std.proofs.lemmas.Slice.Eq.{bytes_eq-Decides}
 use Rattle.filterset_json.specs.Shape.{Text}
 use Rattle.filterset_configuration.specs.Circles.{IsIndex, position_of}
 use Rattle.filterset_configuration.specs.Leads.{IsMarked, MarksEnds, lead}
-use Rattle.filterset_configuration.proofs.LeadLemmas.{lead_inside}
-use Rattle.filterset_configuration.proofs.PlaceLemmas.{slice_get-push}
+use Rattle.filterset_configuration.proofs.{LeadLemmas.lead_inside, PlaceLemmas.slice_get-push}
 
 -- exactly the positions are marked that those below a number lead to
 abbrev pub MarksEndsBelow : List (Option ℕ) → ℕ → List Bool → Type 0

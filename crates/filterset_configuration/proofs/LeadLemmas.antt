@@ -1,11 +1,8 @@
 -- Where positions lead after many steps.
 use Rattle.std.proofs.Common.{◌≡◌, ◌≢◌, ◌<◌, ◌+◌, ◌*◌, ℕ, zero, suc, true, false, List, [], ◌∷◌, None, Option, Some, ◌⊎◌, inl, inr, ⊎_elim, ap, arith, eqb, length, map, refl, subst, sym, ◌∙◌}
 use Rattle.std.specs.Prelude.{option_and_then, option_map, slice_get}
-use Rattle.std.specs.List.{AllByRecursion, IsDistinct, list_any}
-use Rattle.std.specs.Option.{option_map_or}
-use Rattle.std.proofs.lemmas.Bool.{cases_eq}
-use Rattle.std.proofs.lemmas.List.{length-map}
-use Rattle.std.proofs.lemmas.Map.Steps.{length-le_from_distinct_below}
+use Rattle.std.specs.{List.AllByRecursion, List.IsDistinct, List.list_any, Option.option_map_or}
+use Rattle.std.proofs.lemmas.{Bool.cases_eq, List.length-map, Map.Steps.length-le_from_distinct_below}
 use Rattle.std.proofs.lemmas.Option.{slice_get-map, slice_get_within}
 use Rattle.filterset_configuration.specs.Leads.{AreFar, AreLeadsAfter, LeadsBack, lead, lead_after}
 

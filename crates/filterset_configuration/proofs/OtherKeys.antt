@@ -1,9 +1,7 @@
 -- The keys of a table without others.
 use Rattle.std.proofs.Common.{◌≡◌, Bool, true, false, not, cond, Bor, List, [], ◌∷◌, ◌++◌, String, Global, append_assoc, map, string_bytes, refl, ap, sym, ◌∙◌}
 use Rattle.std.proofs.lemmas.List.{map-append}
-use Rattle.std.specs.List.{list_any}
-use Rattle.std.specs.Prelude.{filter}
-use Rattle.std.specs.Str.{bytes_eq}
+use Rattle.std.specs.{List.list_any, Prelude.filter, Str.bytes_eq}
 use Rattle.filterset_json.specs.Shape.{Text}
 
 abbrev pub keys_but : List Text → List Text → List Text

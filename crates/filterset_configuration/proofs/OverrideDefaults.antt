@@ -7,8 +7,7 @@ use Rattle.filterset_json.specs.Shape.{Text}
 use Rattle.filterset_configuration.specs.Ranking.{IsDefaultFilter, IsSetTo, first_default}
 use Rattle.filterset_configuration.specs.declared.defaults.DefaultFilter.{DefaultFilter}
 use Rattle.filterset_configuration.specs.declared.defaults.DefaultFilter.TheVariants.{All, Set, Unknown}
-use Rattle.filterset_configuration.specs.declared.profiles.Profile.{Profile}
-use Rattle.filterset_configuration.specs.declared.ranking.RankedOverride.{RankedOverride}
+use Rattle.filterset_configuration.specs.declared.{profiles.Profile.Profile, ranking.RankedOverride.RankedOverride}
 use Rattle.filterset_configuration.proofs.Finds.{find_passes}
 
 -- what may be so, and is known, is so

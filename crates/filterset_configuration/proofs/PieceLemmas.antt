@@ -1,16 +1,13 @@
 -- How the grammar reads a string, piece by piece.
 use Rattle.std.proofs.Common.{◌≡◌, ℕ, zero, suc, ◌+◌, ◌-◌, ◌<◌, ◌≤◌, ◌⊎◌, Bool, true, false, not, cond, ◌&&◌, ◌||◌, ◌==◌, List, [], ◌∷◌, ◌++◌, length, drop, replicate, Option, Some, None, is_some, unwrap_or, option_map, option_and_then, refl, sym, ap, ◌∙◌, subst, inl, inr, arith, append_assoc, length-append, length-drop, eqb-true, ltb, add-zero, get_or, get_or-drop}
-use Rattle.std.specs.Char.{encode_utf8}
-use Rattle.std.specs.List.{prefix_len}
+use Rattle.std.specs.{Char.encode_utf8, List.prefix_len}
 use Rattle.std.proofs.lemmas.Bool.{cases_Bool, and_parts, true≢false, ltb-false}
 use Rattle.std.proofs.lemmas.List.{append-nil, drop-drop, drop_at, length-replicate}
-use Rattle.std.proofs.lemmas.Option.{cond_some, same_Some, some_pair_parts}
-use Rattle.std.proofs.lemmas.Str.{encode_same}
+use Rattle.std.proofs.lemmas.{Option.cond_some, Option.same_Some, Option.some_pair_parts, Str.encode_same}
 use Rattle.toml_parser.specs.Lexical.{Read, first, skip_from, skip_turn, skip_ws, starts_newline}
 use Rattle.toml_parser.specs.Strings.{after_piece, body, escape, escape_char, hex_escape, hex_len, is_plain, prepend, special}
 use Rattle.filterset_json.specs.Shape.{Text}
-use Rattle.filterset_configuration.specs.declared.content.Delimiter.{Delimiter}
-use Rattle.filterset_configuration.specs.declared.content.PieceEnd.{PieceEnd}
+use Rattle.filterset_configuration.specs.declared.content.{Delimiter.Delimiter, PieceEnd.PieceEnd}
 use Rattle.filterset_configuration.specs.declared.stretch.Stretch.{Stretch}
 use Rattle.filterset_configuration.specs.Pieces.{EndsPiece, IsReadFrom, ReadsEscape, ReadsPiece, is_end, next_piece, no_piece, read_piece}
 

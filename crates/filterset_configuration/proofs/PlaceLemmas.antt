@@ -4,10 +4,8 @@ use Rattle.std.specs.List.{slice_get}
 use Rattle.filterset_json.specs.Shape.{Text}
 use Rattle.filterset_sources.specs.Configurations.{ConfiguredRow, IsConfiguration, configured_rows}
 use Rattle.filterset_sources.specs.declared.configuration.Configuration.{Configuration}
-use Rattle.filterset_configuration.specs.Numbers.{AreApart, numbered}
-use Rattle.filterset_configuration.specs.declared.place.Place.{Place}
-use Rattle.filterset_configuration.specs.declared.stretch.Stretch.{Stretch}
-use Rattle.filterset_configuration.specs.Places.{ArePlaces, ArePlacesAmong}
+use Rattle.filterset_configuration.specs.{Numbers.AreApart, Numbers.numbered, declared.place.Place.Place}
+use Rattle.filterset_configuration.specs.{declared.stretch.Stretch.Stretch, Places.ArePlaces, Places.ArePlacesAmong}
 
 pub slice_get-push : {X : Type 0} (xs : List X) (x y : X) (i : ℕ) → slice_get (xs ++ x ∷ []) i ≡ Some y
     → (slice_get xs i ≡ Some y) ⊎ ((i ≡ length xs) × (x ≡ y))

@@ -1,8 +1,6 @@
 -- Faults of a rest of a text are faults of the text.
 use Rattle.std.proofs.Common.{◌≡◌, ℕ, ◌-◌, false, ◌∷◌, length, drop, get_or, sym, ap, subst, ◌∙◌, length-drop, get_or-drop, add-zero}
-use Rattle.std.specs.Prelude.{Result, Ok, Err, IfErr}
-use Rattle.std.specs.Result.{IsErrAnd}
-use Rattle.std.specs.Borrow.{Bor}
+use Rattle.std.specs.{Prelude.Result, Prelude.Ok, Prelude.Err, Prelude.IfErr, Result.IsErrAnd, Borrow.Bor}
 use Rattle.filterset_json.specs.Shape.{Text}
 use Rattle.filterset_configuration.specs.PlatformGrammar.{is_triple_byte}
 use Rattle.filterset_configuration.specs.PlatformReading.{Gives, IsOutOfMemory, IsPlaced, IsRest, IsTrueOf, Returns}

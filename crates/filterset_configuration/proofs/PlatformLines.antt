@@ -1,13 +1,10 @@
 -- The lines that rustc writes.
 use Rattle.std.proofs.Common.{◌≡◌, ℕ, ◌<◌, suc, List, get_or, [], ◌∷◌, ◌++◌, length, Option, Some, None, ◌≢◌, refl, sym, ap, ◌∙◌}
-use Rattle.std.specs.Prelude.{IsSomeAnd, MatchOption}
 use Rattle.std.proofs.lemmas.Option.{slice_get-get_or}
-use Rattle.std.specs.Borrow.{Bor}
-use Rattle.std.specs.List.{AllZip, slice_get}
+use Rattle.std.specs.{Borrow.Bor, List.AllZip, List.slice_get, Prelude.IsSomeAnd, Prelude.MatchOption}
 use Rattle.filterset_configuration.proofs.PlatformWords.{tails}
-use Rattle.filterset_configuration.specs.PlatformTrees.{Setting}
+use Rattle.filterset_configuration.specs.{PlatformTrees.Setting, PlatformGrammar.IsLine}
 use Rattle.filterset_json.specs.Shape.{Text}
-use Rattle.filterset_configuration.specs.PlatformGrammar.{IsLine}
 
 pub one_more_line : (lines : List Text) (ss : List Setting) (line : Text) (s : Setting)
     → AllZip IsLine lines ss → IsLine line s → AllZip IsLine (lines ++ line ∷ []) (ss ++ s ∷ [])

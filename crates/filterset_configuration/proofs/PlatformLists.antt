@@ -1,14 +1,11 @@
 -- The one reading of a list of expressions.
-use Rattle.std.proofs.Common.{◌≡◌, ℕ, List, ◌∷◌, ◌++◌, [], refl, sym, ap, subst, ◌∙◌, arith, ◌⊎◌, inl, inr}
-use Rattle.std.proofs.Common.{Vec, Global, Result, Ok, Err}
-use Rattle.std.specs.Prelude.{IfOk}
-use Rattle.std.specs.Borrow.{Bor}
-use Rattle.filterset_configuration.specs.declared.platforms.expressions.CfgExpr.{CfgExpr}
-use Rattle.filterset_configuration.specs.declared.platforms.fault.ReadError.{ReadError}
+use Rattle.std.proofs.Common.{◌≡◌, ℕ, List, ◌∷◌, ◌++◌, [], refl, sym, ap, subst, ◌∙◌, arith, ◌⊎◌, inl, inr, Vec, Global, Result, Ok, Err}
+use Rattle.std.specs.{Prelude.IfOk, Borrow.Bor}
+use Rattle.filterset_configuration.specs.declared.platforms.{expressions.CfgExpr.CfgExpr, fault.ReadError.ReadError}
 use Rattle.filterset_configuration.specs.PlatformTrees.{Expr, Exprs, none, more, expr_of, exprs_of}
-use Rattle.filterset_json.specs.Shape.{Text}
 use Rattle.filterset_configuration.specs.PlatformGrammar.{Sign, Inside, Expression}
 use Rattle.filterset_configuration.proofs.PlatformWords.{heads, no_word, tails}
+use Rattle.filterset_json.specs.Shape.{Text}
 
 infixr 40 ◌⊕◌
 abbrev pub ◌⊕◌ : Exprs → Exprs → Exprs

@@ -1,16 +1,13 @@
 -- The one reading of what begins with a word.
 use Rattle.std.proofs.Common.{◌≡◌, ℕ, ◌++◌, true, false, Result, refl, sym, ap, ◌∙◌, arith, subst, ◌⊎◌, inl, inr, ⊎_elim}
-use Rattle.std.specs.Prelude.{IsTrue, codes}
-use Rattle.std.specs.List.{All}
 use Rattle.std.proofs.lemmas.Bool.{false≢true}
-use Rattle.std.specs.Borrow.{Bor}
+use Rattle.std.specs.{Borrow.Bor, List.All, Prelude.IsTrue, Prelude.codes}
 use Rattle.filterset_configuration.specs.PlatformTrees.{name, key_value, Expr, set, literal, negated, all, any, Exprs, Spec, is_named, satisfies}
-use Rattle.filterset_json.specs.Shape.{Text}
 use Rattle.filterset_configuration.specs.PlatformGrammar.{Sign, Quoted, IsKey, IsNamed, IsWhole, GoesOn, Inside, Expression, Spells, is_triple_byte}
-use Rattle.filterset_configuration.specs.PlatformReading.{Gives}
-use Rattle.filterset_configuration.specs.declared.platforms.fault.ReadError.{ReadError}
+use Rattle.filterset_configuration.specs.{PlatformReading.Gives, declared.platforms.fault.ReadError.ReadError}
 use Rattle.filterset_configuration.proofs.PlatformWords.{heads, same_quoted, tails}
 use Rattle.filterset_configuration.proofs.PlatformLists.{sign_same}
+use Rattle.filterset_json.specs.Shape.{Text}
 
 -- what is returned of an expression is returned of an equal one
 pub gives_along : {X Y : Type 0} (view : X → Y) (o : Result (X × Bor Text) ReadError) {y z : Y} {r t : Text}

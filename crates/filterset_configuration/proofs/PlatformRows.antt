@@ -1,7 +1,6 @@
 -- The expressions of a row are those of the list of its items.
 use Rattle.std.proofs.Common.{◌≡◌, ap, ◌∙◌, refl}
-use Rattle.std.specs.declared.vec.Vec.{Vec}
-use Rattle.std.specs.declared.alloc.Global.{Global}
+use Rattle.std.specs.declared.{vec.Vec.Vec, alloc.Global.Global}
 use Rattle.filterset_configuration.specs.declared.platforms.expressions.CfgExpr.{CfgExpr, All, Any, Row_of-CfgExpr, end_of-CfgExpr, more_of-CfgExpr, items-the_row-CfgExpr, items_hidden-the_row-CfgExpr-0}
 use Rattle.filterset_configuration.specs.declared.platforms.expressions.CfgExpr.TheBlock.{hidden-the_row-CfgExpr-0}
 use Rattle.filterset_configuration.specs.PlatformTrees.{all, any, more, expr_of, exprs_of, exprs_of_row}

@@ -1,8 +1,6 @@
 -- What facts decide stays so where more is known.
 use Rattle.std.proofs.Common.{◌≡◌, Bool, true, false, List, Option, Some, None, refl, sym, ap, ◌∙◌}
-use Rattle.std.specs.Prelude.{not, IfSome, IsSome}
-use Rattle.std.specs.Option.{option_map}
-use Rattle.std.specs.Str.{bytes_eq}
+use Rattle.std.specs.{Prelude.not, Prelude.IfSome, Prelude.IsSome, Option.option_map, Str.bytes_eq}
 use Rattle.std.proofs.lemmas.Bool.{false≢true}
 use Rattle.filterset_configuration.specs.PlatformTrees.{Setting, Expr, set, literal, negated, all, any, Exprs, none, more, Spec, is_named, satisfies, spec_of, Facts}
 use Rattle.filterset_configuration.specs.PlatformValues.{applies, is_set, both, either, value, all_value, any_value, Extends, IsKnown, spec_value, part_value}

@@ -1,13 +1,8 @@
 -- Signs, words and values at the front of a text.
 use Rattle.std.proofs.Common.{◌≡◌, ◌≢◌, ℕ, zero, suc, ◌<◌, true, false, [], ◌∷◌, ◌++◌, length, get_or, take, drop, IsUtf8, IsCharBoundary, Option, Some, None, refl, sym, ap, subst, ◌∙◌, arith, add-one, append_assoc}
-use Rattle.std.specs.Prelude.{Bool, ◌||◌, IsTrue, MatchOption, IfSome}
-use Rattle.std.specs.Borrow.{Bor}
-use Rattle.std.specs.Char.{is_ascii_digit}
-use Rattle.std.specs.List.{slice_get}
-use Rattle.std.specs.Option.{option_map_or}
-use Rattle.std.specs.Str.{IsTrimStart, trim_start}
-use Rattle.std.proofs.lemmas.Bool.{or_right, false≢true}
-use Rattle.std.proofs.lemmas.Bool.Decides.{nat_tests}
+use Rattle.std.specs.{Prelude.Bool, Prelude.◌||◌, Prelude.IsTrue, Prelude.MatchOption, Prelude.IfSome, Borrow.Bor}
+use Rattle.std.specs.{Char.is_ascii_digit, List.slice_get, Option.option_map_or, Str.IsTrimStart, Str.trim_start}
+use Rattle.std.proofs.lemmas.Bool.{or_right, false≢true, Decides.nat_tests}
 use Rattle.std.proofs.Math.Seq.{get_or-append_seam}
 use Rattle.std.proofs.lemmas.List.{get_or_default, length-append, take-append-drop}
 use Rattle.std.proofs.lemmas.List.Sums.{prefix_len_passes, prefix_len-le-length}

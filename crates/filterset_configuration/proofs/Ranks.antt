@@ -1,15 +1,11 @@
 -- Overrides in order, one more at a time.
 use Rattle.std.proofs.Common.{◌≡◌, ℕ, ◌+◌, ◌<◌, List, [], ◌∷◌, ◌++◌, length, get_or, map, take, string_bytes, arith, ap, sym, ◌∙◌}
-use Rattle.std.specs.Prelude.{flat_map}
-use Rattle.std.specs.Borrow.{Bor}
-use Rattle.std.specs.List.{enumerate_from}
+use Rattle.std.specs.{Prelude.flat_map, Borrow.Bor, List.enumerate_from}
 use Rattle.std.proofs.lemmas.List.{flat_map_more, get_or-map, length-map, map-append, take_more}
 use Rattle.std.proofs.lemmas.List.FromFn.{get_or-enumerate_from, length-enumerate_from}
 use Rattle.filterset_json.specs.Shape.{Text}
-use Rattle.filterset_configuration.specs.Paths.{override_path, profile_path}
-use Rattle.filterset_configuration.specs.Ranking.{placed}
-use Rattle.filterset_configuration.specs.declared.overrides.Override.{Override}
-use Rattle.filterset_configuration.specs.declared.profiles.Profile.{Profile}
+use Rattle.filterset_configuration.specs.{Paths.override_path, Paths.profile_path, Ranking.placed}
+use Rattle.filterset_configuration.specs.declared.{overrides.Override.Override, profiles.Profile.Profile}
 
 -- what one more item adds to a list of lists
 pub flat_more : {X A : Type 0} (f : X → List A) (xs : List (Bor X)) (i : ℕ) (x : Bor X) → i < length xs → x ≡ get_or xs i x

@@ -1,13 +1,10 @@
 -- A string of a file, by the content between its delimiters.
 use Rattle.std.proofs.Common.{◌≡◌, ℕ, ◌+◌, Bool, true, false, cond, ◌&&◌, ◌||◌, ◌==◌, Some, length, drop, get_or, get_or-drop, refl, sym, ap, ◌∙◌, subst, inl, inr, Vec}
 use Rattle.std.specs.declared.alloc.Global.{Global}
-use Rattle.std.proofs.lemmas.Bool.{cases_Bool}
-use Rattle.std.proofs.lemmas.List.{drop-drop}
-use Rattle.toml_parser.specs.Lexical.{first}
-use Rattle.toml_parser.specs.Strings.{body, one_line, quoted, trim_newline}
+use Rattle.std.proofs.lemmas.{Bool.cases_Bool, List.drop-drop}
+use Rattle.toml_parser.specs.{Lexical.first, Strings.body, Strings.one_line, Strings.quoted, Strings.trim_newline}
 use Rattle.filterset_json.specs.Shape.{Text}
-use Rattle.filterset_configuration.specs.declared.stretch.Stretch.{Stretch}
-use Rattle.filterset_configuration.specs.Pieces.{IsReadFrom}
+use Rattle.filterset_configuration.specs.{declared.stretch.Stretch.Stretch, Pieces.IsReadFrom}
 use Rattle.filterset_configuration.specs.Strings.{IsPlaceOf, delimiter_of, is_multi_line, opening_length}
 
 trim_by_tests : (lf crlf : Bool) (string : Text)

@@ -1,15 +1,11 @@
 -- The places of values.
 use Rattle.std.proofs.Common.{◌≡◌, ℕ, List, Err, IfOk, IfSome, None, Ok, Option, Result, Some, ap, subst, sym, ◌∙◌}
-use Rattle.std.specs.List.{slice_get}
-use Rattle.std.specs.declared.alloc.AllocError.{AllocError}
-use Rattle.toml.specs.Data.{Members, table}
-use Rattle.toml.specs.Parse.{parse_document}
-use Rattle.filterset_configuration.specs.Numbers.{AreApart, numbered}
-use Rattle.filterset_configuration.specs.Places.{IsNumberedPlace}
-use Rattle.filterset_configuration.specs.declared.place.Place.{Place}
-use Rattle.filterset_configuration.specs.declared.stretch.Stretch.{Stretch}
-use Rattle.filterset_json.specs.Shape.{Text}
+use Rattle.std.specs.{List.slice_get, declared.alloc.AllocError.AllocError}
+use Rattle.toml.specs.{Data.Members, Data.table, Parse.parse_document}
+use Rattle.filterset_configuration.specs.{Numbers.AreApart, Numbers.numbered, Places.IsNumberedPlace}
+use Rattle.filterset_configuration.specs.declared.{place.Place.Place, stretch.Stretch.Stretch}
 use Rattle.filterset_configuration.specs.Wrong.{IsValuePlace, ValueRow, values_of}
+use Rattle.filterset_json.specs.Shape.{Text}
 
 -- a place by the number that the value has in the file with numbers
 pub value-place : (file : Text) (at : ℕ) (row other : ValueRow) (literals : List Stretch) (ms : Members) (values : List ValueRow) (text number : Text)

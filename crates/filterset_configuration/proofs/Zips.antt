@@ -1,7 +1,6 @@
 -- Lists of which the elements at each place belong together, and values of a configuration as lists.
 use Rattle.std.proofs.Common.{◌≡◌, ℕ, zero, suc, ◌<◌, List, [], ◌∷◌, ◌++◌, length, get_or, map, string_bytes, arith, refl, sym, subst}
-use Rattle.std.specs.Prelude.{zip}
-use Rattle.std.specs.List.{AllZip}
+use Rattle.std.specs.{Prelude.zip, List.AllZip}
 use Rattle.toml.specs.Data.{Data, Items, Members, array, member, table}
 use Rattle.toml.specs.View.{items_of, members_of, members_view, view}
 use Rattle.toml.proofs.Views.{Entry}

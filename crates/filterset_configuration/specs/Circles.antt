@@ -1,14 +1,10 @@
 -- Profiles that fall back on themselves.
 use Rattle.std.specs.Prelude.{◌≡◌, ◌↔◌, ℕ, zero, suc, Bool, true, List, [], ◌∷◌, None, Option, Some, IsSome, bytes_eq, codes, if◌then◌else◌, option_and_then, option_copied, slice_get}
-use Rattle.std.specs.Borrow.{Bor}
-use Rattle.std.specs.BTreeMap.{BTreeMap, get_by}
-use Rattle.std.specs.Cmp.Lexicographic.{slice_cmp}
-use Rattle.std.specs.Option.{option_map_or}
+use Rattle.std.specs.{Borrow.Bor, BTreeMap.BTreeMap, BTreeMap.get_by, Cmp.Lexicographic.slice_cmp, Option.option_map_or}
 use Rattle.std.specs.Ordering.{nat_cmp}
 use Rattle.toml.specs.Data.{Data, Members, no_members, member, as_str, get, get_member}
 use Rattle.filterset_json.specs.Shape.{Text}
-use Rattle.filterset_sources.specs.Configurations.{keys_of}
-use Rattle.filterset_sources.specs.Sections.{members_under}
+use Rattle.filterset_sources.specs.{Configurations.keys_of, Sections.members_under}
 use Rattle.filterset_configuration.specs.declared.circles.Link.{Link}
 
 -- the name of the profile that the one of this name falls back on: `default`, unless it inherits from another; `default`

@@ -1,18 +1,12 @@
 -- Keys of a configuration that are not read, and are near one that is.
 use Rattle.std.specs.Prelude.{◌≡◌, ◌+◌, ◌++◌, ◌⊎◌, ◌&&◌, ℕ, Bool, List, [], ◌∷◌, IfSome, IsFalse, IsTrue, MatchOption, Some, bytes_eq, codes, flat_map, length, map, string_bytes}
-use Rattle.std.specs.List.{list_any}
-use Rattle.std.specs.Option.{option_map_or}
-use Rattle.toml.specs.Data.{Data, table, Members, as_table}
-use Rattle.toml.specs.Parse.{parse_document}
-use Rattle.filterset_faults.specs.Span.{span}
-use Rattle.filterset_faults.specs.declared.span.SourceSpan.{SourceSpan}
-use Rattle.filterset_json.specs.Paths.{key_text}
-use Rattle.filterset_json.specs.Shape.{Text}
+use Rattle.std.specs.{List.list_any, Option.option_map_or}
+use Rattle.toml.specs.{Data.Data, Data.table, Data.Members, Data.as_table, Parse.parse_document}
+use Rattle.filterset_faults.specs.{Span.span, declared.span.SourceSpan.SourceSpan}
+use Rattle.filterset_json.specs.{Paths.key_text, Shape.Text}
 use Rattle.filterset_configuration.specs.Edits.{IsMeant}
-use Rattle.filterset_configuration.specs.declared.keys.FoundKey.{FoundKey}
-use Rattle.filterset_configuration.specs.declared.unknown.UnknownKey.{UnknownKey}
-use Rattle.filterset_sources.specs.Configurations.{keys_of}
-use Rattle.filterset_sources.specs.Sections.{SectionRow, sections_of}
+use Rattle.filterset_configuration.specs.declared.{keys.FoundKey.FoundKey, unknown.UnknownKey.UnknownKey}
+use Rattle.filterset_sources.specs.{Configurations.keys_of, Sections.SectionRow, Sections.sections_of}
 use Rattle.filterset_sources.specs.declared.sections.SectionKind.{SectionKind}
 use Rattle.filterset_sources.specs.declared.sections.SectionKind.TheVariants.{File, Profile, Override, Script}
 

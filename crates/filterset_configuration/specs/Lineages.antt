@@ -2,8 +2,7 @@
 use Rattle.std.specs.Prelude.{◌≡◌, List, [], ◌∷◌, ◌++◌, Option, None, Some, IfSome, IsTrue, bytes_eq, codes, false, find, if◌then◌else◌, option_and_then, option_map, string_bytes}
 use Rattle.std.specs.Option.{option_or}
 use Rattle.filterset_json.specs.Shape.{Text}
-use Rattle.filterset_configuration.specs.Names.{is_built_in}
-use Rattle.filterset_configuration.specs.Paths.{profile_path}
+use Rattle.filterset_configuration.specs.{Names.is_built_in, Paths.profile_path}
 use Rattle.filterset_configuration.specs.declared.fault.LineageFault.{LineageFault}
 use Rattle.filterset_configuration.specs.declared.fault.LineageFault.TheVariants.{NoProfile, NoParent, Cycle, OutOfMemory}
 use Rattle.filterset_configuration.specs.declared.profiles.Profile.{Profile}

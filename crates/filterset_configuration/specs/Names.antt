@@ -2,8 +2,7 @@
 use Rattle.std.specs.Prelude.{Bool, ◌==◌, ◌&&◌, ◌||◌, bytes_eq, codes, drop, if◌then◌else◌, not}
 use Rattle.std.specs.List.{list_any, starts_with}
 use Rattle.filterset_json.specs.Shape.{Text}
-use Rattle.filterset_configuration.specs.declared.wrong.ValueRole.{ValueRole}
-use Rattle.filterset_configuration.specs.declared.wrong.ValueRole.TheVariants.{ReservedProfile}
+use Rattle.filterset_configuration.specs.declared.wrong.ValueRole.{ValueRole, TheVariants.ReservedProfile}
 
 -- nextest itself has these profiles; `default-miri` falls back on `default`
 abbrev pub is_built_in : Text → Bool

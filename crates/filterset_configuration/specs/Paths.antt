@@ -1,7 +1,6 @@
 -- Paths to the profiles of a configuration, and to their overrides.
 use Rattle.std.specs.Prelude.{ℕ, ◌++◌, codes, decimal}
-use Rattle.filterset_json.specs.Paths.{key_text}
-use Rattle.filterset_json.specs.Shape.{Text}
+use Rattle.filterset_json.specs.{Paths.key_text, Shape.Text}
 
 -- the path to the profile of this name
 abbrev pub profile_path : Text → Text

@@ -1,11 +1,9 @@
 -- What stands between the delimiters of a string, piece by piece.
 use Rattle.std.specs.Prelude.{◌≡◌, ◌==◌, ◌&&◌, ◌||◌, ◌++◌, ◌<◌, ◌≤◌, ℕ, Bool, not, List, [], ◌∷◌, Option, None, Some, drop, length, replicate, if◌then◌else◌}
 use Rattle.std.specs.List.{prefix_len}
-use Rattle.toml_parser.specs.Lexical.{Read, first}
-use Rattle.toml_parser.specs.Strings.{escape, is_plain, special}
+use Rattle.toml_parser.specs.{Lexical.Read, Lexical.first, Strings.escape, Strings.is_plain, Strings.special}
 use Rattle.filterset_json.specs.Shape.{Text}
-use Rattle.filterset_configuration.specs.declared.content.Delimiter.{Delimiter}
-use Rattle.filterset_configuration.specs.declared.content.PieceEnd.{PieceEnd}
+use Rattle.filterset_configuration.specs.declared.content.{Delimiter.Delimiter, PieceEnd.PieceEnd}
 use Rattle.filterset_configuration.specs.declared.stretch.Stretch.{Stretch}
 
 -- What the grammar reads at the front of the rest of a string, and what follows: the bytes of the text that a byte or an escape

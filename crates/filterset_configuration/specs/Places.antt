@@ -3,12 +3,9 @@ use Rattle.std.specs.Prelude.{◌≡◌, ◌≢◌, ◌+◌, ◌-◌, ◌==◌, 
 use Rattle.filterset_json.specs.Shape.{Text}
 use Rattle.filterset_sources.specs.Configurations.{ConfiguredRow, IsConfiguration, configured_rows}
 use Rattle.filterset_sources.specs.declared.configuration.Configuration.{Configuration}
-use Rattle.filterset_faults.specs.Span.{offset_of, length_of, span}
-use Rattle.filterset_faults.specs.declared.span.SourceSpan.{SourceSpan}
-use Rattle.filterset_configuration.specs.Numbers.{AreApart, numbered}
-use Rattle.filterset_configuration.specs.Strings.{IsPlaceOf}
-use Rattle.filterset_configuration.specs.declared.place.Place.{Place}
-use Rattle.filterset_configuration.specs.declared.stretch.Stretch.{Stretch}
+use Rattle.filterset_faults.specs.{Span.offset_of, Span.length_of, Span.span, declared.span.SourceSpan.SourceSpan}
+use Rattle.filterset_configuration.specs.{Numbers.AreApart, Numbers.numbered, Strings.IsPlaceOf}
+use Rattle.filterset_configuration.specs.declared.{place.Place.Place, stretch.Stretch.Stretch}
 
 -- The place is that of the literal with the number that is written as `other`, and its literal is read as the text, which is
 -- not so written.

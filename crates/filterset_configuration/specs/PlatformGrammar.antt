@@ -2,9 +2,7 @@
 -- A piece of a text is read at its front, after white space: `A .. s t` says that `s` begins with an A, and `t` follows.
 use Rattle.std.specs.Prelude.{◌≡◌, ◌≢◌, ℕ, ◌⊎◌, Bool, true, false, ◌||◌, ◌==◌, IsTrue, if◌then◌else◌, [], ◌∷◌, ◌++◌, codes, drop, slice_get, take_while}
 use Rattle.std.specs.Char.{is_ascii_alphabetic, is_ascii_digit}
-use Rattle.std.specs.List.{All, prefix_len}
-use Rattle.std.specs.Option.{option_map_or}
-use Rattle.std.specs.Str.{bytes_eq, trim_start}
+use Rattle.std.specs.{List.All, List.prefix_len, Option.option_map_or, Str.bytes_eq, Str.trim_start}
 use Rattle.filterset_configuration.specs.PlatformTrees.{Setting, name, key_value, Expr, set, literal, negated, all, any, Exprs, none, more, Spec, is_named, satisfies}
 use Rattle.filterset_json.specs.Shape.{Text}
 

@@ -1,20 +1,15 @@
 -- What readers return.
 use Rattle.std.specs.Prelude.{◌≡◌, ◌≢◌, ◌+◌, ◌≤◌, ℕ, false, List, [], ◌∷◌, ◌++◌, IsSomeAnd, length, drop, slice_get, take, None, Some, Result, Ok, Err}
-use Rattle.std.specs.List.{All, AllZip}
-use Rattle.std.specs.Borrow.{Bor}
-use Rattle.std.specs.Str.Lines.{lines}
+use Rattle.std.specs.{List.All, List.AllZip, Borrow.Bor, Str.Lines.lines}
 use Rattle.filterset_configuration.specs.PlatformGrammar.{BeginsWithWord, IsLine, Spells, is_triple_byte}
-use Rattle.filterset_configuration.specs.PlatformTrees.{Setting, Spec}
-use Rattle.filterset_json.specs.Shape.{Text}
-use Rattle.filterset_configuration.specs.PlatformValues.{lacking}
-use Rattle.filterset_configuration.specs.declared.platforms.fault.CfgRefusal.{CfgRefusal}
-use Rattle.filterset_configuration.specs.declared.platforms.fault.CfgRefusal.TheVariants as refusals
-use Rattle.filterset_configuration.specs.declared.platforms.fault.Expected.{Expected}
+use Rattle.filterset_configuration.specs.{PlatformTrees.Setting, PlatformTrees.Spec, PlatformValues.lacking}
+use Rattle.filterset_configuration.specs.declared.platforms.fault.{CfgRefusal.CfgRefusal, Expected.Expected}
 use Rattle.filterset_configuration.specs.declared.platforms.fault.Expected.TheVariants.{Expression, OpenParenthesis, CloseParenthesis, CommaOrCloseParenthesis, Value, End, TripleCharacter}
-use Rattle.filterset_configuration.specs.declared.platforms.fault.PlatformRefusal.{PlatformRefusal}
-use Rattle.filterset_configuration.specs.declared.platforms.fault.PlatformRefusal.TheVariants as platforms
-use Rattle.filterset_configuration.specs.declared.platforms.fault.ReadError.{ReadError}
+use Rattle.filterset_configuration.specs.declared.platforms.fault.{PlatformRefusal.PlatformRefusal, ReadError.ReadError}
 use Rattle.filterset_configuration.specs.declared.platforms.fault.ReadError.TheVariants.{OutOfMemory, Fault}
+use Rattle.filterset_json.specs.Shape.{Text}
+use Rattle.filterset_configuration.specs.declared.platforms.fault.CfgRefusal.TheVariants as refusals
+use Rattle.filterset_configuration.specs.declared.platforms.fault.PlatformRefusal.TheVariants as platforms
 
 abbrev pub IsOutOfMemory : ReadError → Type 0
 IsOutOfMemory OutOfMemory = Unit {0}

@@ -2,8 +2,7 @@
 use Rattle.std.specs.Prelude.{Bool, List, [], ◌∷◌, Option, map, string_bytes}
 use Rattle.std.specs.Option.{option_map}
 use Rattle.filterset_json.specs.Shape.{Text}
-use Rattle.filterset_configuration.specs.declared.platforms.settings.Cfg.{Cfg}
-use Rattle.filterset_configuration.specs.declared.platforms.settings.Cfg.TheVariants.{Name, KeyValue}
+use Rattle.filterset_configuration.specs.declared.platforms.settings.Cfg.{Cfg, TheVariants.Name, TheVariants.KeyValue}
 use Rattle.filterset_configuration.specs.declared.platforms.expressions.CfgExpr.{CfgExpr, Value, Literal, Not', All', Any', Row_of-CfgExpr, end_of-CfgExpr, more_of-CfgExpr}
 use Rattle.filterset_configuration.specs.declared.platforms.facts.PlatformFacts.{PlatformFacts}
 use Rattle.filterset_configuration.specs.declared.platforms.specification.PlatformSpec.{PlatformSpec}

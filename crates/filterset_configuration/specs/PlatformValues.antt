@@ -1,12 +1,10 @@
 -- What platforms mean, as far as facts decide it.
 use Rattle.std.specs.Prelude.{◌≡◌, Bool, true, false, not, ◌&&◌, codes, List, Option, None, Some, IsSome, if◌then◌else◌, option_and_then, option_map}
-use Rattle.std.specs.List.{list_any}
-use Rattle.std.specs.Option.{option_map_or}
-use Rattle.std.specs.Str.{bytes_eq}
+use Rattle.std.specs.{List.list_any, Option.option_map_or, Str.bytes_eq}
 use Rattle.filterset_configuration.specs.PlatformTrees.{Setting, name, key_value, Expr, set, literal, negated, all, any, Exprs, none, more, Spec, is_named, satisfies, spec_of, Facts}
-use Rattle.filterset_json.specs.Shape.{Text}
 use Rattle.filterset_configuration.specs.declared.platforms.filter.PlatformFilter.{PlatformFilter}
 use Rattle.filterset_configuration.specs.declared.platforms.specification.PlatformSpec.{PlatformSpec}
+use Rattle.filterset_json.specs.Shape.{Text}
 
 abbrev pub same_setting : Setting → Setting → Bool
 same_setting (name n) (name m) = bytes_eq n m

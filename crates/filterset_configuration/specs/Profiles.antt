@@ -1,21 +1,16 @@
 -- What nextest's configuration says of profiles. What is missing is as if it were empty.
 use Rattle.std.specs.Prelude.{◌≡◌, ◌||◌, Bool, false, List, [], ◌∷◌, Option, None, Some, String, IsSome, IsSomeAnd, IsTrue, MatchOption, bytes_eq, codes, filter, if◌then◌else◌, is_none, is_some, map, not, option_and_then, string_bytes, unwrap_or, zip}
-use Rattle.std.specs.List.{AllZip, list_any}
-use Rattle.std.specs.Option.{option_map_or}
-use Rattle.std.specs.declared.alloc.Global.{Global}
+use Rattle.std.specs.{List.AllZip, List.list_any, Option.option_map_or, declared.alloc.Global.Global}
 use Rattle.toml.specs.Data.{Data, string, array, table, no_items, Members, no_members, as_table, get}
-use Rattle.toml.specs.Parse.{parse_document}
-use Rattle.toml.specs.View.{items_of, members_of}
+use Rattle.toml.specs.{Parse.parse_document, View.items_of, View.members_of}
 use Rattle.filterset_sources.specs.Configurations.{keys_of}
-use Rattle.filterset_configuration.specs.PlatformGrammar.{Spells}
-use Rattle.filterset_configuration.specs.PlatformTrees.{spec_of}
-use Rattle.filterset_json.specs.Shape.{Text}
+use Rattle.filterset_configuration.specs.{PlatformGrammar.Spells, PlatformTrees.spec_of}
 use Rattle.filterset_configuration.specs.declared.platforms.filter.PlatformFilter.{PlatformFilter}
 use Rattle.filterset_configuration.specs.declared.platforms.specification.PlatformSpec.{PlatformSpec}
-use Rattle.filterset_configuration.specs.declared.overrides.Override.{Override}
-use Rattle.filterset_configuration.specs.declared.profiles.Profile.{Profile}
+use Rattle.filterset_configuration.specs.declared.{overrides.Override.Override, profiles.Profile.Profile}
 use Rattle.filterset_configuration.specs.declared.wrong.ValueRole.{ValueRole}
 use Rattle.filterset_configuration.specs.declared.wrong.ValueRole.TheVariants.{ForBoth, ForNothing}
+use Rattle.filterset_json.specs.Shape.{Text}
 
 -- the value under a key is one that A says, and there is none where nothing is under the key
 abbrev pub Under : {X : Type 0} → (Data → X → Type 0) → Text → Data → Option X → Type 0

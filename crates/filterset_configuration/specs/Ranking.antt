@@ -1,17 +1,12 @@
 -- The overrides that a profile has by its lineage, in order, and the default filter that follows.
 use Rattle.std.specs.Prelude.{◌≡◌, ◌++◌, ◌&&◌, ℕ, true, List, Option, None, Some, String, IsSomeAnd, MatchOption, codes, find, is_some, map, option_map, string_bytes, unwrap_or}
-use Rattle.std.specs.Borrow.{Bor}
-use Rattle.std.specs.List.{enumerate_from}
-use Rattle.std.specs.declared.alloc.Global.{Global}
-use Rattle.filterset_configuration.specs.PlatformTrees.{Facts}
-use Rattle.filterset_json.specs.Shape.{Text}
-use Rattle.filterset_configuration.specs.PlatformValues.{applies}
-use Rattle.filterset_configuration.specs.Paths.{override_path, profile_path}
-use Rattle.filterset_configuration.specs.declared.defaults.DefaultFilter.{DefaultFilter}
+use Rattle.std.specs.{Borrow.Bor, List.enumerate_from, declared.alloc.Global.Global}
+use Rattle.filterset_configuration.specs.{Paths.override_path, Paths.profile_path, PlatformTrees.Facts}
+use Rattle.filterset_configuration.specs.{PlatformValues.applies, declared.defaults.DefaultFilter.DefaultFilter}
 use Rattle.filterset_configuration.specs.declared.defaults.DefaultFilter.TheVariants.{All, Set, Unknown}
-use Rattle.filterset_configuration.specs.declared.overrides.Override.{Override}
-use Rattle.filterset_configuration.specs.declared.profiles.Profile.{Profile}
+use Rattle.filterset_configuration.specs.declared.{overrides.Override.Override, profiles.Profile.Profile}
 use Rattle.filterset_configuration.specs.declared.ranking.RankedOverride.{RankedOverride}
+use Rattle.filterset_json.specs.Shape.{Text}
 
 -- the overrides of a profile, with their paths
 abbrev pub placed : Profile → List (Text × Override)

@@ -3,8 +3,7 @@ use Rattle.std.specs.Prelude.{◌≡◌, None, List}
 use Rattle.toml.specs.Parse.{parse_document}
 use Rattle.filterset_json.specs.Shape.{Text}
 use Rattle.filterset_configuration.specs.Profiles.{HasProfiles}
-use Rattle.filterset_configuration.specs.declared.profiles.Profile.{Profile}
-use Rattle.filterset_configuration.specs.declared.refusal.ProfileRefusal.{ProfileRefusal}
+use Rattle.filterset_configuration.specs.declared.{profiles.Profile.Profile, refusal.ProfileRefusal.ProfileRefusal}
 use Rattle.filterset_configuration.specs.declared.refusal.ProfileRefusal.TheVariants.{NotToml, Wrong, OutOfMemory}
 
 -- a value is wrong

@@ -1,11 +1,9 @@
 -- Where a string of a file is read as a text.
 use Rattle.std.specs.Prelude.{◌≡◌, ◌==◌, ◌&&◌, ◌+◌, ℕ, Bool, Some, drop, length, slice_index, if◌then◌else◌}
-use Rattle.toml_parser.specs.Lexical.{first}
-use Rattle.toml_parser.specs.Strings.{quoted}
+use Rattle.toml_parser.specs.{Lexical.first, Strings.quoted}
 use Rattle.filterset_json.specs.Shape.{Text}
 use Rattle.filterset_configuration.specs.Pieces.{IsReadFrom}
-use Rattle.filterset_configuration.specs.declared.content.Delimiter.{Delimiter}
-use Rattle.filterset_configuration.specs.declared.place.Place.{Place}
+use Rattle.filterset_configuration.specs.declared.{content.Delimiter.Delimiter, place.Place.Place}
 
 -- At the place's literal in the file, the grammar reads a string as this text. Behind its opening delimiter, from `start` on,
 -- each byte of the text is read from the piece that is its origin, up to the closing delimiter at the place's end.

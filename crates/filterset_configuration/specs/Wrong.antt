@@ -2,25 +2,16 @@
 use Rattle.std.specs.Prelude.{◌≡◌, ◌++◌, ◌||◌, ◌⊎◌, ℕ, List, [], ◌∷◌, Some, IfSome, IsTrue, MatchOption, codes, flat_map, if◌then◌else◌, is_none, is_some, map, option_and_then, option_map, option_to_list, slice_get, string_bytes}
 use Rattle.std.specs.Option.{option_map_or}
 use Rattle.toml.specs.Data.{Data, table, Members, no_members, member, as_str, as_table, get}
-use Rattle.toml.specs.Parse.{parse_document}
-use Rattle.toml.specs.View.{view}
-use Rattle.filterset_json.specs.Paths.{key_text}
-use Rattle.filterset_configuration.specs.Keys.{Finds}
-use Rattle.filterset_configuration.specs.Numbers.{AreApart, numbered}
-use Rattle.filterset_configuration.specs.Places.{IsNumberedPlace}
-use Rattle.filterset_configuration.specs.declared.place.Place.{Place}
-use Rattle.filterset_configuration.specs.declared.stretch.Stretch.{Stretch}
-use Rattle.filterset_configuration.specs.PlatformGrammar.{Spells}
-use Rattle.filterset_configuration.specs.PlatformTrees.{Spec}
-use Rattle.filterset_json.specs.Shape.{Text}
+use Rattle.toml.specs.{Parse.parse_document, View.view}
+use Rattle.filterset_json.specs.{Paths.key_text, Shape.Text}
+use Rattle.filterset_configuration.specs.{Keys.Finds, Numbers.AreApart, Numbers.numbered, Places.IsNumberedPlace}
+use Rattle.filterset_configuration.specs.declared.{place.Place.Place, stretch.Stretch.Stretch}
+use Rattle.filterset_configuration.specs.{PlatformGrammar.Spells, PlatformTrees.Spec}
 use Rattle.filterset_configuration.specs.Circles.{IsInCircle, MarksCircles}
-use Rattle.filterset_configuration.specs.Names.{is_built_in, is_reserved}
-use Rattle.filterset_configuration.specs.Profiles.{is_group, shape_of}
+use Rattle.filterset_configuration.specs.{Names.is_built_in, Names.is_reserved, Profiles.is_group, Profiles.shape_of}
 use Rattle.filterset_configuration.specs.declared.placing.NumberedValues.{NumberedValues}
-use Rattle.filterset_configuration.specs.declared.checking.CheckedFile.{CheckedFile}
-use Rattle.filterset_configuration.specs.declared.walking.Walk.{Walk}
-use Rattle.filterset_configuration.specs.declared.wrong.ProfileValue.{ProfileValue}
-use Rattle.filterset_configuration.specs.declared.wrong.ValueRole.{ValueRole}
+use Rattle.filterset_configuration.specs.declared.{checking.CheckedFile.CheckedFile, walking.Walk.Walk}
+use Rattle.filterset_configuration.specs.declared.wrong.{ProfileValue.ProfileValue, ValueRole.ValueRole}
 use Rattle.filterset_configuration.specs.declared.wrong.ValueRole.TheVariants.{ForBoth, ForNothing, Group, NoCircle, NoText, Parent, Platform, ReservedGroup, ReservedProfile}
 use Rattle.filterset_configuration.specs.declared.wrong.WrongValue.{WrongValue}
 use Rattle.filterset_sources.specs.Sections.{SectionRow, below, members_under, sections_of}

@@ -1,11 +1,9 @@
 //! Reads the overrides of profiles.
 ghost use Rattle.std.specs.Prelude.{◌≡◌, List, IfErr, IfOk, codes, unwrap_or};
-ghost use Rattle.toml.specs.Data.{array, get, no_items, no_members, table};
-ghost use Rattle.toml.specs.View.{view};
+ghost use Rattle.toml.specs.{Data.array, Data.get, Data.no_items, Data.no_members, Data.table, View.view};
 ghost use Rattle.filterset_configuration.specs.declared.platforms.filter.PlatformFilter.{PlatformFilter};
 ghost use Rattle.filterset_configuration.specs.Profiles.{AreOverrides, ArePlatforms, IsOverride, IsPlatform, Under, has_platform, shape_of};
-ghost use Rattle.filterset_configuration.specs.Refusals.{Refuses};
-ghost use Rattle.filterset_configuration.specs.declared.overrides.Override.{Override};
+ghost use Rattle.filterset_configuration.specs.{Refusals.Refuses, declared.overrides.Override.Override};
 
 use crate::paths::override_path;
 use crate::platforms::PlatformFilter;

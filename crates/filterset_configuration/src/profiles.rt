@@ -1,7 +1,6 @@
 //! Reads profiles.
 ghost use Rattle.std.specs.Prelude.{◌≡◌, List, IfErr, IfOk, string_bytes};
-ghost use Rattle.toml.specs.Data.{table};
-ghost use Rattle.toml.specs.View.{table_view, view};
+ghost use Rattle.toml.specs.{Data.table, View.table_view, View.view};
 ghost use Rattle.filterset_configuration.specs.Profiles.{AreProfiles, HasProfiles, IsProfile};
 ghost use Rattle.filterset_configuration.specs.Refusals.{Refuses, RefusesText};
 ghost use Rattle.filterset_configuration.specs.declared.profiles.Profile.{Profile};

@@ -1,8 +1,7 @@
 //! Puts the overrides of a lineage in order.
 ghost use Rattle.std.specs.Prelude.{◌≡◌, ◌++◌, List, IfOk, OnOk, flat_map, map};
 ghost use Rattle.std.specs.List.{AllZip};
-ghost use Rattle.filterset_configuration.specs.PlatformTrees.{facts_of};
-ghost use Rattle.filterset_configuration.specs.Ranking.{IsRanked, placed};
+ghost use Rattle.filterset_configuration.specs.{PlatformTrees.facts_of, Ranking.IsRanked, Ranking.placed};
 ghost use Rattle.filterset_configuration.specs.declared.ranking.RankedOverride.{RankedOverride};
 
 use crate::overrides::Override;

@@ -1,8 +1,7 @@
 //! Finds keys of a configuration that are not read, and are near one that is.
 ghost use Rattle.std.specs.Prelude.{◌≡◌, ◌++◌, IfOk, IfSome, IsTrue, List, OnOk, Some, codes, length};
 ghost use Rattle.std.specs.Bool.{OnTrue};
-ghost use Rattle.toml.specs.Data.{Members, table};
-ghost use Rattle.toml.specs.Parse.{parse_document};
+ghost use Rattle.toml.specs.{Data.Members, Data.table, Parse.parse_document};
 ghost use Rattle.filterset_configuration.specs.Keys.{AreUnknownKeys, Finds, IsKeyPlace, Judged, found_keys, is_renamed, key_row, key_rows};
 ghost use Rattle.filterset_configuration.specs.declared.unknown.UnknownKey.{UnknownKey};
 

@@ -1,8 +1,7 @@
 //! Reads single values.
 ghost use Rattle.std.specs.Prelude.{◌≡◌, Option, String, IfErr, IfOk, codes, is_some, map, option_and_then, string_bytes};
 ghost use Rattle.std.specs.declared.alloc.Global.{Global};
-ghost use Rattle.toml.specs.Data.{get};
-ghost use Rattle.toml.specs.View.{view};
+ghost use Rattle.toml.specs.{Data.get, View.view};
 ghost use Rattle.filterset_configuration.specs.declared.platforms.specification.PlatformSpec.{PlatformSpec};
 ghost use Rattle.filterset_configuration.specs.Profiles.{IsGroup, IsPlatform, IsText, Under, is_group, settings_but};
 ghost use Rattle.filterset_configuration.specs.Refusals.{IsWrong, Refuses};

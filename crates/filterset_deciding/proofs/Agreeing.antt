@@ -1,12 +1,9 @@
 -- A branch agrees with a test if it does on each aspect.
 use Rattle.std.proofs.Common.{◌≡◌, ◌↔◌, ◌∙◌, ◌<◌, ◌≤◌, ◌+◌, ℕ, Bool, true, false, Option, Some, None, refl, sym, ap, subst, List, [], ◌∷◌, ◌++◌, take, length, get_or, arith, IsTrue}
-use Rattle.std.specs.Prelude.{Contains, IsUtf8}
-use Rattle.std.specs.Bool.{beq}
-use Rattle.std.proofs.lemmas.Bool.{false≢true}
-use Rattle.std.proofs.lemmas.List.{take_more}
+use Rattle.std.proofs.lemmas.{Bool.false≢true, List.take_more}
 use Rattle.std.proofs.lemmas.List.Elements.{All-from_recursion, All-get_or}
-use Rattle.std.specs.List.{AllByRecursion}
 use Rattle.std.proofs.lemmas.Option.{none-some as none_some, same_Some as some_same}
+use Rattle.std.specs.{Bool.beq, List.AllByRecursion, Prelude.Contains, Prelude.IsUtf8}
 use Rattle.filterset_expression.specs.Expression as leaf
 use Rattle.filterset_expression.specs.Expression.{CompiledLeaf, leaf_matcher}
 use Rattle.filterset_expression.specs.FlatSteps.{Step, Push, Negate, Combine, step_of}
@@ -14,14 +11,11 @@ use Rattle.filterset_matchers.specs.Matcher.{Matcher, MatchesName}
 use Rattle.filterset_deciding.specs.AnyTest.{AnyTest, Says}
 use Rattle.filterset_deciding.specs.Aspects.{AgreesOn, IsKnownOn, IsOfField, is_constant, is_of_package, is_of_platform, text_of}
 use Rattle.filterset_deciding.specs.PackageSets.{IsInNone, IsOfNoPackage, IsWithin}
-use Rattle.filterset_deciding.specs.Demands.{IsDemandedBy}
-use Rattle.filterset_deciding.specs.Texts.{IsMetBy, matcher_in}
-use Rattle.filterset_deciding.specs.declared.demand.Demand.{Demand}
-use Rattle.filterset_deciding.specs.Known.{Agrees, IsKnown, IsKnownStep}
-use Rattle.filterset_deciding.specs.declared.demand.TestField.{TestField}
-use Rattle.filterset_deciding.specs.declared.demand.TestField.TheVariants as fields
-use Rattle.filterset_deciding.specs.declared.running.ValuedStep.{ValuedStep}
+use Rattle.filterset_deciding.specs.{Demands.IsDemandedBy, Texts.IsMetBy, Texts.matcher_in}
+use Rattle.filterset_deciding.specs.{declared.demand.Demand.Demand, Known.Agrees, Known.IsKnown, Known.IsKnownStep}
+use Rattle.filterset_deciding.specs.declared.{demand.TestField.TestField, running.ValuedStep.ValuedStep}
 use Rattle.filterset_deciding.proofs.Branches.{each_before, each_pushed}
+use Rattle.filterset_deciding.specs.declared.demand.TestField.TheVariants as fields
 
 known_on : (On : CompiledLeaf → Type 0) (test : AnyTest) (s : Step CompiledLeaf) (v : Option Bool) → IsKnownStep test s v → IsKnownOn On test s v
 known_on On test (Push l) v known = λ on. known

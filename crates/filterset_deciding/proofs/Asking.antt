@@ -1,26 +1,19 @@
 -- The answers of filtersets that are laid out.
 use Rattle.std.proofs.Common.{◌≡◌, ◌∙◌, ◌↔◌, ◌<◌, ◌+◌, ℕ, suc, Bool, true, false, List, [], ◌∷◌, ◌++◌, IsTrue, arith, ap, drop, get_or, length, map, refl, sym, take}
-use Rattle.std.proofs.lemmas.Bool.{or_parts as neither, false≢true}
-use Rattle.std.proofs.lemmas.List.{take_more}
-use Rattle.std.proofs.lemmas.List.Elements.{All-contains, All-map, All-push}
-use Rattle.std.proofs.Math.Seq.{split_at}
+use Rattle.std.proofs.{Math.Seq.split_at, lemmas.Bool.or_parts as neither, lemmas.Bool.false≢true}
+use Rattle.std.proofs.lemmas.List.{take_more, Elements.All-contains, Elements.All-map, Elements.All-push}
+use Rattle.std.specs.{Borrow.Bor, List.AllZip, List.count_by, List.list_any}
 use Rattle.std.specs.Prelude.{◌||◌, All, Contains}
-use Rattle.std.specs.Borrow.{Bor}
-use Rattle.std.specs.List.{AllZip, count_by, list_any}
 use Rattle.filterset_expression.specs.Expression.{is_group, with_default}
 use Rattle.filterset_expression.specs.FlatExpressions.{IsFlat, has_step}
-use Rattle.filterset_expression.specs.declared.expression.CompiledExpr.{CompiledExpr}
-use Rattle.filterset_expression.specs.declared.flat.FlatExpr.{FlatExpr}
+use Rattle.filterset_expression.specs.declared.{expression.CompiledExpr.CompiledExpr, flat.FlatExpr.FlatExpr}
 use Rattle.filterset_expression.specs.declared.query.TestQuery.{TestQuery}
-use Rattle.filterset_expression.proofs.FlatSteps.{no_group_of_steps}
-use Rattle.filterset_expression.proofs.LeafAnswers.{lookups_alike}
+use Rattle.filterset_expression.proofs.{FlatSteps.no_group_of_steps, LeafAnswers.lookups_alike}
 use Rattle.filterset_deciding.specs.AnyTest.{AreAnswersAsked, AreLaid, IsPickOf, PicksAsked, in_group}
 use Rattle.filterset_deciding.specs.Deciding.{answer_of}
 use Rattle.filterset_deciding.specs.Listed.{AreOfQuestion, IsFirstUnmet, IsMetAsked, IsMetByAll, IsUnmetIn, asks_group}
-use Rattle.filterset_deciding.specs.Question.{is_met}
-use Rattle.filterset_deciding.specs.declared.listed.LaidQuestion.{LaidQuestion}
-use Rattle.filterset_deciding.specs.declared.question.Question.{Question}
-use Rattle.filterset_deciding.specs.declared.witness.PossibleTest.{PossibleTest}
+use Rattle.filterset_deciding.specs.{Question.is_met, declared.listed.LaidQuestion.LaidQuestion}
+use Rattle.filterset_deciding.specs.declared.{question.Question.Question, witness.PossibleTest.PossibleTest}
 
 -- the answers of the steps are those of the filtersets
 pub answers_of_laid : (default : CompiledExpr) (query : TestQuery) (group : List ℕ) (exprs : List (Bor CompiledExpr)) (flats : List FlatExpr) (answers : List Bool)

@@ -1,29 +1,17 @@
 -- Branches of the search, and which tests agree with them.
-use Rattle.std.proofs.Common.{◌≡◌, ◌↔◌, ◌<◌, ◌+◌, ℕ, Bool, true, false, refl, sym, ◌∙◌, ap, subst, List, [], ◌∷◌, ◌++◌, map, take, length, get_or, IsTrue}
-use Rattle.std.specs.Borrow.{Bor}
-use Rattle.std.specs.List.{AllByRecursion, AllZip}
-use Rattle.std.specs.declared.vec.Vec.{Vec}
-use Rattle.std.specs.declared.alloc.Global.{Global}
+use Rattle.std.proofs.Common.{◌≡◌, ◌↔◌, ◌<◌, ◌+◌, ℕ, Bool, true, false, refl, sym, ◌∙◌, ap, subst, List, [], ◌∷◌, ◌++◌, map, take, length, get_or, IsTrue, Some}
+use Rattle.std.specs.{Borrow.Bor, List.AllByRecursion, List.AllZip, declared.vec.Vec.Vec, declared.alloc.Global.Global}
 use Rattle.std.proofs.lemmas.Bool.{true_from_ne_false as true_unless_false, false≢true}
-use Rattle.std.proofs.lemmas.List.{map-append, take_more}
-use Rattle.std.proofs.lemmas.List.Elements.{All-from_recursion, All-get_or}
-use Rattle.filterset_expression.specs.Expression.{CompiledLeaf, with_default}
-use Rattle.filterset_expression.specs.Formula.{TrueWhere}
-use Rattle.filterset_expression.specs.declared.expression.CompiledExpr.{CompiledExpr}
-use Rattle.filterset_expression.specs.FlatSteps.{Step, step_of}
+use Rattle.std.proofs.lemmas.List.{map-append, take_more, Elements.All-from_recursion, Elements.All-get_or}
+use Rattle.filterset_expression.specs.{Expression.CompiledLeaf, Expression.with_default, Formula.TrueWhere}
+use Rattle.filterset_expression.specs.{declared.expression.CompiledExpr.CompiledExpr, FlatSteps.Step, FlatSteps.step_of}
 use Rattle.filterset_deciding.specs.AnyTest.{AnyTest, Says, AreAnswers}
 use Rattle.filterset_deciding.specs.Deciding.{IsAlwaysMet, answer_of}
-use Rattle.filterset_deciding.specs.Known.{IsKnownStep, Agrees, steps_in}
-use Rattle.filterset_deciding.specs.Judging.{met}
+use Rattle.filterset_deciding.specs.{Known.IsKnownStep, Known.Agrees, Known.steps_in, Judging.met, Judging.Fits}
 use Rattle.filterset_deciding.specs.Searching.{AgreesWith, HaveSteps, NoneAgrees, IsMissed, Rejects, all_steps}
-use Rattle.filterset_deciding.specs.declared.question.Question.{Question}
-use Rattle.filterset_deciding.specs.declared.running.ValuedStep.{ValuedStep}
-use Rattle.filterset_deciding.specs.declared.running.StackValue.{StackValue}
-use Rattle.filterset_deciding.specs.Running.{kleene_run, tops}
-use Rattle.filterset_deciding.specs.Judging.{Fits}
-use Rattle.std.proofs.Common.{Some}
-use Rattle.filterset_deciding.proofs.Kleene.{values_known}
-use Rattle.filterset_deciding.proofs.Counting.{fits}
+use Rattle.filterset_deciding.specs.declared.{question.Question.Question, running.ValuedStep.ValuedStep}
+use Rattle.filterset_deciding.specs.{declared.running.StackValue.StackValue, Running.kleene_run, Running.tops}
+use Rattle.filterset_deciding.proofs.{Kleene.values_known, Counting.fits}
 
 -- one more that is so
 pub each_pushed : {A : Type 0} (P : A → Type 0) (xs : List A) (x : A) → AllByRecursion P xs → P x → AllByRecursion P (xs ++ x ∷ [])

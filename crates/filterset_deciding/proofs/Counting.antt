@@ -1,14 +1,11 @@
 -- Answers that fit values of three, and how many of them are yes.
 use Rattle.std.proofs.Common.{◌≡◌, ◌↔◌, ◌+◌, ◌≤◌, Bool, true, false, Option, Some, None, refl, sym, cond, List, [], ◌∷◌, map, length, arith, IsTrue}
 use Rattle.std.specs.List.{AllZip, count_by}
-use Rattle.std.proofs.lemmas.Bool.{false≢true}
-use Rattle.std.proofs.lemmas.List.Sums.{sum_by-cons}
-use Rattle.filterset_expression.specs.Expression.{CompiledLeaf}
-use Rattle.filterset_expression.specs.Formula.{Formula, TrueWhere}
+use Rattle.std.proofs.lemmas.{Bool.false≢true, List.Sums.sum_by-cons}
+use Rattle.filterset_expression.specs.{Expression.CompiledLeaf, Formula.Formula, Formula.TrueWhere}
 use Rattle.filterset_deciding.specs.AnyTest.{AnyTest, Says}
 use Rattle.filterset_deciding.specs.Judging.{is_yes, is_maybe, FitsOne, Fits}
-use Rattle.filterset_deciding.specs.Known.{IsKnown}
-use Rattle.filterset_deciding.specs.declared.running.StackValue.{StackValue}
+use Rattle.filterset_deciding.specs.{Known.IsKnown, declared.running.StackValue.StackValue}
 use Rattle.filterset_deciding.proofs.Kleene.{AreKnown}
 
 fits_one : (x : Bool) (v : Option Bool) (P : Type 0) → (IsTrue x ↔ P) → IsKnown v P → FitsOne x v

@@ -1,19 +1,14 @@
 -- Demands of leaves, and the leaves of the filtersets.
 use Rattle.std.proofs.Common.{◌≡◌, ◌∙◌, ◌<◌, ℕ, zero, suc, refl, sym, ap, subst, List, [], ◌∷◌, ◌++◌, map, length, get_or, ⊎_elim, arith}
-use Rattle.std.specs.Prelude.{Contains}
-use Rattle.std.specs.List.{AllByRecursion, flat_map}
-use Rattle.std.proofs.lemmas.List.{append-nil}
-use Rattle.std.proofs.lemmas.List.Concat.{flat_map-cons}
+use Rattle.std.specs.{Prelude.Contains, List.AllByRecursion, List.flat_map}
+use Rattle.std.proofs.lemmas.List.{append-nil, Concat.flat_map-cons}
 use Rattle.filterset_expression.specs.Expression.{CompiledLeaf}
 use Rattle.filterset_expression.specs.FlatSteps.{Step, Push, Negate, Combine, postfix, step_of}
 use Rattle.filterset_expression.specs.Formula.{Formula, Leaf, Negation, Compound, leaves}
 use Rattle.filterset_deciding.specs.Candidates.{HasOpen}
 use Rattle.filterset_deciding.specs.Demands.{HasUncompared, IsDemandedBy, IsDoubtAbout, IsDoubtIn, IsOfLeaf}
-use Rattle.filterset_deciding.specs.Known.{steps_in}
-use Rattle.filterset_deciding.specs.Searching.{all_steps, pushed}
-use Rattle.filterset_deciding.specs.declared.demand.Demand.{Demand}
-use Rattle.filterset_deciding.specs.declared.demand.Doubt.{Doubt}
-use Rattle.filterset_deciding.specs.declared.demand.TestField.{TestField}
+use Rattle.filterset_deciding.specs.{Known.steps_in, Searching.all_steps, Searching.pushed}
+use Rattle.filterset_deciding.specs.declared.demand.{Demand.Demand, Doubt.Doubt, TestField.TestField}
 use Rattle.filterset_deciding.specs.declared.running.ValuedStep.{ValuedStep}
 use Rattle.filterset_deciding.proofs.Rules.{contains_cases, contains_none}
 

@@ -1,24 +1,21 @@
 -- A run keeps what is known of the formulas on the stack.
 use Rattle.std.proofs.Common.{◌≡◌, Bool, true, false, Option, Some, None, refl, sym, ◌∙◌, ap, subst, List, [], ◌∷◌, ◌++◌, map, append_assoc, inl, inr, ⊎_elim, IsTrue}
-use mathlib.Core.List.{reverse, reverse_aux}
 use Rattle.std.specs.List.{AllZip}
-use Rattle.std.proofs.lemmas.Bool.{false≢true}
-use Rattle.std.proofs.lemmas.List.{append-nil, reverse-reverse}
+use Rattle.std.proofs.lemmas.{Bool.false≢true, List.append-nil, List.reverse-reverse}
 use Rattle.std.proofs.lemmas.Option.{none-some as no_stack, same_Some as same_stack}
+use mathlib.Core.List.{reverse, reverse_aux}
 use Rattle.filterset_expression.specs.Connectives.{Connects, kleene, kleene_not}
 use Rattle.filterset_expression.specs.declared.logic.Connective.{Connective}
 use Rattle.filterset_expression.specs.declared.logic.Connective.TheVariants.{Conjunction, Disjunction, ExclusiveDisjunction}
 use Rattle.filterset_expression.specs.Expression.{CompiledLeaf}
 use Rattle.filterset_expression.specs.FlatSteps.{Step, Push, Negate, Combine, step_of}
 use Rattle.filterset_expression.specs.Formula.{Formula, Leaf, Negation, Compound, TrueWhere}
-use Rattle.filterset_expression.proofs.Connectives.{connected_decides}
-use Rattle.filterset_expression.proofs.Decoding.{decoded, decoded_postfix}
+use Rattle.filterset_expression.proofs.{Connectives.connected_decides, Decoding.decoded, Decoding.decoded_postfix}
 use Rattle.filterset_deciding.specs.AnyTest.{AnyTest, Says}
 use Rattle.filterset_deciding.specs.Known.{IsKnown, IsKnownStep, Agrees, steps_in}
 use Rattle.filterset_deciding.specs.Running.{kleene_step, kleene_run, on_stack, tops}
 use Rattle.filterset_deciding.specs.Searching.{all_steps}
-use Rattle.filterset_deciding.specs.declared.running.ValuedStep.{ValuedStep}
-use Rattle.filterset_deciding.specs.declared.running.StackValue.{StackValue}
+use Rattle.filterset_deciding.specs.declared.running.{ValuedStep.ValuedStep, StackValue.StackValue}
 
 never : {P : Type 0} → IsTrue false → P
 never e = absurd (false≢true e)

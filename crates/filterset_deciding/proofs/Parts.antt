@@ -1,16 +1,11 @@
 -- Texts that meet demands: if one does, then so does that of all parts, with a free character between them.
 use Rattle.std.proofs.Common.{◌≡◌, ◌↔◌, ◌∙◌, ◌<◌, ℕ, Bool, true, false, not, refl, sym, ap, subst, List, [], ◌∷◌, ◌++◌, take, drop, length, get_or, ◌+◌, append_assoc, inl, inr, ⊎_elim, IsTrue}
-use Rattle.std.specs.Prelude.{Contains, ◌⊎◌}
-use Rattle.std.specs.List.{AllByRecursion, flat_map}
-use Rattle.std.specs.Str.Iter.{HasSubslice}
-use Rattle.std.proofs.lemmas.Bool.{false≢true}
-use Rattle.std.proofs.lemmas.List.{append-nil, take-append-drop}
-use Rattle.std.proofs.lemmas.List.Concat.{flat_map-cons}
-use Rattle.std.proofs.lemmas.List.Elements.{Contains-append_left, Contains-append_right}
-use Rattle.std.proofs.lemmas.Grind.{flat_map-append}
+use Rattle.std.proofs.lemmas.{Bool.false≢true, Grind.flat_map-append, List.append-nil, List.take-append-drop}
+use Rattle.std.proofs.lemmas.List.{Concat.flat_map-cons, Elements.Contains-append_left, Elements.Contains-append_right}
+use Rattle.std.specs.{List.AllByRecursion, List.flat_map, Prelude.Contains, Prelude.◌⊎◌, Str.Iter.HasSubslice}
 use Rattle.filterset_matchers.specs.Equality.{Compared, Equal, Contains as Contains', Glob, Regex, compared}
-use Rattle.filterset_matchers.specs.Matcher as matcher
 use Rattle.filterset_matchers.specs.Matcher.{ByComparing, Matcher, MatchesName}
+use Rattle.filterset_matchers.specs.Matcher as matcher
 use Rattle.filterset_deciding.specs.Texts.{AreComparisons, AreSimple, HasUnsearched, IsAmong, IsEqual, IsFreeOf, IsMetBy, IsSimple, IsUnsearched, Meets, NoneEqual, joined, matcher_in, part, part_of}
 use Rattle.filterset_deciding.specs.declared.demand.Demand.{Demand}
 use Rattle.filterset_deciding.proofs.Agreeing.{take_one}

@@ -1,13 +1,9 @@
 -- What follows from answers that are always met.
 use Rattle.std.proofs.Common.{◌≡◌, ◌≢◌, ◌≤◌, ◌+◌, ℕ, zero, suc, Bool, true, false, not, cond, refl, List, [], ◌∷◌, ◌++◌, arith}
-use Rattle.std.specs.Prelude.{Contains, ◌==◌, nat_le}
-use Rattle.std.specs.Borrow.{Bor}
-use Rattle.std.specs.List.{count_by}
-use Rattle.std.proofs.lemmas.Bool.{false≢true, leb-true}
-use Rattle.std.proofs.lemmas.List.Sums.{sum_by-cons}
+use Rattle.std.specs.{Prelude.Contains, Prelude.◌==◌, Prelude.nat_le, Borrow.Bor, List.count_by}
+use Rattle.std.proofs.lemmas.{Bool.false≢true, Bool.leb-true, List.Sums.sum_by-cons}
 use Rattle.filterset_expression.specs.declared.expression.CompiledExpr.{CompiledExpr}
-use Rattle.filterset_deciding.specs.AnyTest.{AnyTest, Picks, AreAnswers}
-use Rattle.filterset_deciding.specs.Deciding.{answer_of}
+use Rattle.filterset_deciding.specs.{AnyTest.AnyTest, AnyTest.Picks, AnyTest.AreAnswers, Deciding.answer_of}
 use Rattle.filterset_deciding.specs.declared.question.Question.TheVariants.{AllAlike, AtLeastOne, AtMostOne}
 
 pub alike_two : (x y : Bool) → answer_of AllAlike (x ∷ y ∷ []) ≡ true → x ≡ y

@@ -1,23 +1,15 @@
 -- Branches by whose values the answer is no.
 use Rattle.std.proofs.Common.{◌≡◌, Bool, true, Option, Some, refl, subst, List, [], ◌∷◌, map}
-use Rattle.std.specs.Prelude.{Result, Ok, Err, OnOk}
-use Rattle.std.specs.Borrow.{Bor}
-use Rattle.filterset_expression.specs.Expression.{CompiledLeaf}
-use Rattle.filterset_expression.specs.Formula.{Formula, TrueWhere}
+use Rattle.std.specs.{Prelude.Result, Prelude.Ok, Prelude.Err, Prelude.OnOk, Borrow.Bor}
+use Rattle.filterset_expression.specs.{Expression.CompiledLeaf, Formula.Formula, Formula.TrueWhere}
 use Rattle.filterset_expression.specs.declared.expression.CompiledExpr.{CompiledExpr}
 use Rattle.filterset_deciding.specs.AnyTest.{AnyTest, Says}
-use Rattle.filterset_deciding.specs.Deciding.{IsOf, IsUnmetAt, formulas_asked}
-use Rattle.filterset_deciding.specs.Judging.{IsUnmetFor}
-use Rattle.filterset_deciding.specs.Known.{Agrees, IsKnown, steps_in}
-use Rattle.filterset_deciding.specs.Running.{kleene_run, tops}
+use Rattle.filterset_deciding.specs.{Deciding.IsOf, Deciding.IsUnmetAt, Deciding.formulas_asked, Judging.IsUnmetFor}
+use Rattle.filterset_deciding.specs.{Known.Agrees, Known.IsKnown, Known.steps_in, Running.kleene_run, Running.tops}
 use Rattle.filterset_deciding.specs.Searching.{AreAnswersAt, IsUnmetBy, Refuses, all_steps}
-use Rattle.filterset_deciding.specs.declared.question.Question.{Question}
-use Rattle.filterset_deciding.specs.declared.running.StackValue.{StackValue}
-use Rattle.filterset_deciding.specs.declared.running.ValuedStep.{ValuedStep}
-use Rattle.filterset_deciding.specs.declared.witness.PossibleTest.{PossibleTest}
-use Rattle.filterset_deciding.proofs.Branches.{are_of_formulas}
-use Rattle.filterset_deciding.proofs.Counting.{fits}
-use Rattle.filterset_deciding.proofs.Kleene.{AreKnown, values_known}
+use Rattle.filterset_deciding.specs.declared.{question.Question.Question, running.StackValue.StackValue}
+use Rattle.filterset_deciding.specs.declared.{running.ValuedStep.ValuedStep, witness.PossibleTest.PossibleTest}
+use Rattle.filterset_deciding.proofs.{Branches.are_of_formulas, Counting.fits, Kleene.AreKnown, Kleene.values_known}
 
 unmet_by : (question : Question) (test : AnyTest) (formulas : List (Formula CompiledLeaf)) (values : List (Option Bool)) → AreKnown test formulas values
     → IsUnmetFor question values → IsUnmetBy question test formulas

@@ -1,22 +1,15 @@
 -- What sets of packages, and parts of texts, tell of each other.
 use Rattle.std.proofs.Common.{◌≡◌, ◌↔◌, ◌<◌, ℕ, zero, suc, Bool, true, false, refl, sym, ◌∙◌, ap, subst, List, [], ◌∷◌, ◌++◌, length, get_or, append_assoc, inl, inr, ⊎_elim, arith, IsTrue}
-use Rattle.std.specs.Prelude.{Contains, ◌⊎◌}
-use Rattle.std.specs.Bool.{beq}
-use Rattle.std.specs.Prelude.{Option, Some, None, if◌then◌else◌, chars}
-use Rattle.std.specs.Str.Iter.{HasSubslice}
-use Rattle.std.proofs.lemmas.Bool.{false≢true}
-use Rattle.std.proofs.lemmas.Bool.{and_parts}
-use Rattle.std.proofs.lemmas.Str.{encodes-chars}
-use Rattle.std.specs.Prelude.{IfSome, IsUtf8, encode_utf8_all, not}
+use Rattle.std.specs.Prelude.{Contains, ◌⊎◌, Option, Some, None, if◌then◌else◌, chars, IfSome, IsUtf8, encode_utf8_all, not}
+use Rattle.std.specs.{Bool.beq, Str.Iter.HasSubslice}
+use Rattle.std.proofs.lemmas.{Bool.false≢true, Bool.and_parts, Str.encodes-chars}
 use Rattle.filterset_glob.specs.Matching.{Matches, MatchesToken}
 use Rattle.filterset_glob.specs.Tokens.{Token, literal, token_of, tokens_of}
 use Rattle.filterset_glob.specs.declared.token.GlobToken.{GlobToken}
-use Rattle.filterset_deciding.specs.Globs.{is_literal, are_literals}
+use Rattle.filterset_deciding.specs.{Globs.is_literal, Globs.are_literals, Known.IsKnown, Known.IsLiteralOf}
 use Rattle.filterset_matchers.specs.Equality.{Compared, Equal, Contains as Contains', Glob, Regex, compared, same_compared, same_compared_Decides}
+use Rattle.filterset_matchers.specs.{Matcher.Matcher, Matcher.MatchesName, Pattern.HasMatch}
 use Rattle.filterset_matchers.specs.Matcher as matcher
-use Rattle.filterset_matchers.specs.Matcher.{Matcher, MatchesName}
-use Rattle.filterset_matchers.specs.Pattern.{HasMatch}
-use Rattle.filterset_deciding.specs.Known.{IsKnown, IsLiteralOf}
 
 first_or_later : {A : Type 0} (x y : A) (rest : List A) (k : ℕ) → k < length (y ∷ rest) → get_or (y ∷ rest) k x ≡ x → (y ≡ x) ⊎ Contains rest x
 first_or_later x y rest zero lt e = inl e

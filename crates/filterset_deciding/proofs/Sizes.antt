@@ -1,17 +1,12 @@
 -- How many branches a search looks at, at most, and that formulas run.
 use Rattle.std.proofs.Common.{◌≡◌, ◌∙◌, ◌<◌, ◌≤◌, ◌+◌, ◌-◌, ◌*◌, ◌^◌, ℕ, zero, suc, Bool, Option, Some, None, refl, sym, ap, subst, List, [], ◌∷◌, ◌++◌, take, length, get_or, append_assoc, length-append, ⊎_elim, arith}
-use Rattle.std.proofs.lemmas.Bool.{cases_lt}
-use Rattle.std.specs.declared.vec.Vec.{Vec}
-use Rattle.std.specs.declared.alloc.Global.{Global}
-use Rattle.std.proofs.Math.Nat.{pow-suc}
-use Rattle.std.proofs.lemmas.List.Concat.{flat_map-cons}
+use Rattle.std.proofs.{Math.Nat.pow-suc, lemmas.Bool.cases_lt, lemmas.List.Concat.flat_map-cons}
+use Rattle.std.specs.declared.{alloc.Global.Global, vec.Vec.Vec}
 use Rattle.filterset_expression.specs.Connectives.{kleene, kleene_not}
-use Rattle.filterset_expression.specs.declared.logic.Connective.{Connective}
-use Rattle.filterset_expression.specs.Expression.{CompiledLeaf}
+use Rattle.filterset_expression.specs.{declared.logic.Connective.Connective, Expression.CompiledLeaf}
 use Rattle.filterset_expression.specs.FlatSteps.{Step, Push, Negate, Combine, postfix, step_of}
 use Rattle.filterset_expression.specs.Formula.{Formula, Leaf, Negation, Compound}
-use Rattle.filterset_deciding.specs.Known.{steps_in}
-use Rattle.filterset_deciding.specs.Running.{kleene_run, kleene_step, on_stack}
+use Rattle.filterset_deciding.specs.{Known.steps_in, Running.kleene_run, Running.kleene_step, Running.on_stack}
 use Rattle.filterset_deciding.specs.Searching.{all_steps, pushed}
 use Rattle.filterset_deciding.specs.Waiting.{IsOpenAt, IsOpenStep, all_nodes, nodes, open_of, opens}
 use Rattle.filterset_deciding.specs.declared.running.ValuedStep.{ValuedStep}

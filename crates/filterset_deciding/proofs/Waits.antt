@@ -1,17 +1,13 @@
 -- Unknown values, and what they wait for.
 use Rattle.std.proofs.Common.{◌≡◌, ◌∙◌, ◌<◌, ◌+◌, ◌≢◌, ℕ, Bool, true, false, not, Option, Some, None, refl, sym, ap, subst, cond, List, [], ◌∷◌, length, get_or}
 use Rattle.std.specs.List.{AllByRecursion, count_by}
-use Rattle.std.proofs.lemmas.List.{get_or_default}
-use Rattle.std.proofs.lemmas.List.Sums.{sum_by-cons}
-use Rattle.filterset_expression.specs.Connectives.{kleene, kleene_not}
-use Rattle.filterset_expression.specs.declared.logic.Connective.{Connective}
+use Rattle.std.proofs.lemmas.List.{get_or_default, Sums.sum_by-cons}
+use Rattle.filterset_expression.specs.{Connectives.kleene, Connectives.kleene_not, declared.logic.Connective.Connective}
 use Rattle.filterset_expression.specs.declared.logic.Connective.TheVariants.{Conjunction, Disjunction, ExclusiveDisjunction}
-use Rattle.filterset_expression.specs.Expression.{CompiledLeaf}
-use Rattle.filterset_expression.specs.FlatSteps.{Push, step_of}
+use Rattle.filterset_expression.specs.{Expression.CompiledLeaf, FlatSteps.Push, FlatSteps.step_of}
 use Rattle.filterset_deciding.specs.Judging.{is_yes, is_maybe}
 use Rattle.filterset_deciding.specs.Waiting.{IsOpenAt, IsOpenStep, IsSettled, WaitsAt, WaitsIn}
-use Rattle.filterset_deciding.specs.declared.running.StackValue.{StackValue}
-use Rattle.filterset_deciding.specs.declared.running.ValuedStep.{ValuedStep}
+use Rattle.filterset_deciding.specs.declared.running.{StackValue.StackValue, ValuedStep.ValuedStep}
 use Rattle.filterset_deciding.proofs.Doubts.{of_each}
 
 no_value : {A : Type 0} (x : A) → Some x ≡ None → ⊥

@@ -1,12 +1,9 @@
 -- Possible tests, and what filtersets say of them.
 use Rattle.std.specs.Prelude.{ℕ, ◌↔◌, Bool, List, IsTrue, IsUtf8}
-use Rattle.std.specs.List.{AllZip}
-use Rattle.std.specs.Borrow.{Bor}
+use Rattle.std.specs.{List.AllZip, Borrow.Bor}
 use Rattle.filterset_expression.specs.Expression.{CompiledLeaf, Lookup, Holds, HoldsOfTest}
-use Rattle.filterset_expression.specs.FlatExpressions.{IsFlat}
-use Rattle.filterset_expression.specs.declared.expression.CompiledExpr.{CompiledExpr}
-use Rattle.filterset_expression.specs.declared.flat.FlatExpr.{FlatExpr}
-use Rattle.filterset_expression.specs.declared.query.TestQuery.{TestQuery}
+use Rattle.filterset_expression.specs.{FlatExpressions.IsFlat, declared.expression.CompiledExpr.CompiledExpr}
+use Rattle.filterset_expression.specs.declared.{flat.FlatExpr.FlatExpr, query.TestQuery.TestQuery}
 use Rattle.filterset_matchers.specs.Matcher.{MatchesName}
 
 -- a possible test, and the name of its group; its texts are UTF-8, as each text of a program is

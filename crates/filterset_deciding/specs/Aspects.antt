@@ -3,14 +3,10 @@
 use Rattle.std.specs.Prelude.{◌≡◌, ℕ, Bool, true, false, List, Option, Some}
 use Rattle.std.specs.List.{AllByRecursion}
 use Rattle.filterset_expression.specs.Expression as leaf
-use Rattle.filterset_expression.specs.Expression.{CompiledLeaf}
-use Rattle.filterset_expression.specs.FlatSteps.{Step, Push, step_of}
-use Rattle.filterset_deciding.specs.AnyTest.{AnyTest, Says}
-use Rattle.filterset_deciding.specs.Demands.{field_of}
-use Rattle.filterset_deciding.specs.Known.{IsKnown}
-use Rattle.filterset_deciding.specs.declared.demand.TestField.{TestField}
+use Rattle.filterset_expression.specs.{Expression.CompiledLeaf, FlatSteps.Step, FlatSteps.Push, FlatSteps.step_of}
+use Rattle.filterset_deciding.specs.{AnyTest.AnyTest, AnyTest.Says, Demands.field_of, Known.IsKnown}
+use Rattle.filterset_deciding.specs.declared.{demand.TestField.TestField, running.ValuedStep.ValuedStep}
 use Rattle.filterset_deciding.specs.declared.demand.TestField.TheVariants as fields
-use Rattle.filterset_deciding.specs.declared.running.ValuedStep.{ValuedStep}
 
 -- a text of the test
 abbrev pub text_of : TestField → AnyTest → List ℕ

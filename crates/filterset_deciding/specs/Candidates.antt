@@ -1,15 +1,11 @@
 -- Why no test of a branch was made.
 use Rattle.std.specs.Prelude.{List}
-use Rattle.filterset_expression.specs.Expression.{CompiledLeaf}
-use Rattle.filterset_expression.specs.FlatSteps.{Step}
-use Rattle.filterset_deciding.specs.AnyTest.{AnyTest}
-use Rattle.filterset_deciding.specs.Demands.{IsDoubtIn}
-use Rattle.filterset_deciding.specs.Known.{Agrees, steps_in}
+use Rattle.filterset_expression.specs.{Expression.CompiledLeaf, FlatSteps.Step}
+use Rattle.filterset_deciding.specs.{AnyTest.AnyTest, Demands.IsDoubtIn, Known.Agrees, Known.steps_in}
 use Rattle.filterset_deciding.specs.Texts.{AreComparisons, HasUnsearched}
 use Rattle.filterset_deciding.specs.declared.candidate.NoCandidate.{NoCandidate}
 use Rattle.filterset_deciding.specs.declared.candidate.NoCandidate.TheVariants.{Impossible, Doubtful, Stopped, OutOfMemory}
-use Rattle.filterset_deciding.specs.declared.demand.Doubt.{Doubt}
-use Rattle.filterset_deciding.specs.declared.running.ValuedStep.{ValuedStep}
+use Rattle.filterset_deciding.specs.declared.{demand.Doubt.Doubt, running.ValuedStep.ValuedStep}
 
 -- the doubt is about leaves of these steps, and its matchers do not only compare texts
 pub record IsOpenDoubt (steps : List (Step CompiledLeaf)) (doubt : Doubt) : Type 0 where

@@ -1,16 +1,11 @@
 -- What is decided about filtersets.
 use Rattle.std.specs.Prelude.{◌≡◌, ◌∷◌, Bool, true, false, List, length, map, string_bytes}
-use Rattle.std.specs.List.{count_by, flat_map}
-use Rattle.std.specs.Borrow.{Bor}
+use Rattle.std.specs.{List.count_by, List.flat_map, Borrow.Bor}
 use Rattle.filterset_expression.specs.Expression.{CompiledLeaf, with_default}
-use Rattle.filterset_expression.specs.FlatSteps.{Step, postfix}
-use Rattle.filterset_expression.specs.Formula.{Formula, leaves}
-use Rattle.filterset_expression.specs.declared.expression.CompiledExpr.{CompiledExpr}
-use Rattle.filterset_expression.specs.declared.query.TestQuery.{TestQuery}
-use Rattle.filterset_deciding.specs.AnyTest.{AnyTest, Picks, AreAnswers}
-use Rattle.filterset_deciding.specs.Question.{is_met}
-use Rattle.filterset_deciding.specs.declared.question.Question.{Question}
-use Rattle.filterset_deciding.specs.declared.witness.PossibleTest.{PossibleTest}
+use Rattle.filterset_expression.specs.{FlatSteps.Step, FlatSteps.postfix, Formula.Formula, Formula.leaves}
+use Rattle.filterset_expression.specs.declared.{expression.CompiledExpr.CompiledExpr, query.TestQuery.TestQuery}
+use Rattle.filterset_deciding.specs.{AnyTest.AnyTest, AnyTest.Picks, AnyTest.AreAnswers, Question.is_met}
+use Rattle.filterset_deciding.specs.declared.{question.Question.Question, witness.PossibleTest.PossibleTest}
 
 -- the answer to the question, by which filtersets pick the test
 abbrev pub answer_of : Question → List Bool → Bool

@@ -5,12 +5,9 @@ use Rattle.filterset_expression.specs.Expression as leaf
 use Rattle.filterset_expression.specs.Expression.{CompiledLeaf, leaf_matcher}
 use Rattle.filterset_expression.specs.FlatSteps.{Step, Push, step_of}
 use Rattle.filterset_matchers.specs.Matchers.{matcher_of}
-use Rattle.filterset_deciding.specs.Texts.{AreComparisons}
-use Rattle.filterset_deciding.specs.declared.demand.Demand.{Demand}
-use Rattle.filterset_deciding.specs.declared.demand.Doubt.{Doubt}
-use Rattle.filterset_deciding.specs.declared.demand.TestField.{TestField}
+use Rattle.filterset_deciding.specs.{Texts.AreComparisons, declared.demand.Demand.Demand, declared.demand.Doubt.Doubt}
+use Rattle.filterset_deciding.specs.declared.{demand.TestField.TestField, running.ValuedStep.ValuedStep}
 use Rattle.filterset_deciding.specs.declared.demand.TestField.TheVariants as fields
-use Rattle.filterset_deciding.specs.declared.running.ValuedStep.{ValuedStep}
 
 -- the text of a test that the leaf's matcher is put to, if the leaf has one
 abbrev pub field_of : CompiledLeaf → Option TestField

@@ -1,7 +1,6 @@
 -- Globs of literals.
 use Rattle.std.specs.Prelude.{◌&&◌, Bool, true, false, List, [], ◌∷◌}
-use Rattle.filterset_glob.specs.Tokens.{Token, literal, token_of}
-use Rattle.filterset_glob.specs.declared.token.GlobToken.{GlobToken}
+use Rattle.filterset_glob.specs.{Tokens.Token, Tokens.literal, Tokens.token_of, declared.token.GlobToken.GlobToken}
 
 abbrev pub is_literal : Token → Bool
 is_literal (literal c) = true

@@ -1,8 +1,7 @@
 -- What the values of filtersets, some of which are unknown, say about a question.
 use Rattle.std.specs.Prelude.{◌≡◌, ◌||◌, Bool, true, false, not, List, [], ◌∷◌, Option, Some, None, length}
 use Rattle.std.specs.List.{AllZip, count_by}
-use Rattle.filterset_deciding.specs.Question.{is_met}
-use Rattle.filterset_deciding.specs.declared.question.Question.{Question}
+use Rattle.filterset_deciding.specs.{Question.is_met, declared.question.Question.Question}
 
 abbrev pub is_yes : Option Bool → Bool
 is_yes (Some true) = true

@@ -1,11 +1,9 @@
 -- What is known about leaves and matchers.
 use Rattle.std.specs.Prelude.{◌≡◌, ◌↔◌, ℕ, Bool, List, IsTrue, IsUtf8, Option, Some, None, map}
 use Rattle.std.specs.List.{AllByRecursion}
-use Rattle.filterset_expression.specs.Expression.{CompiledLeaf}
-use Rattle.filterset_expression.specs.FlatSteps.{Step, Push, step_of}
+use Rattle.filterset_expression.specs.{Expression.CompiledLeaf, FlatSteps.Step, FlatSteps.Push, FlatSteps.step_of}
 use Rattle.filterset_matchers.specs.Matcher.{Matcher, MatchesName}
-use Rattle.filterset_deciding.specs.AnyTest.{AnyTest, Says}
-use Rattle.filterset_deciding.specs.declared.running.ValuedStep.{ValuedStep}
+use Rattle.filterset_deciding.specs.{AnyTest.AnyTest, AnyTest.Says, declared.running.ValuedStep.ValuedStep}
 
 -- if there is a value, it is whether the proposition holds
 abbrev pub IsKnown : Option Bool → Type 0 → Type 0

@@ -1,16 +1,11 @@
 -- Tests of a list, each in each of several groups, and what is decided about them.
 use Rattle.std.specs.Prelude.{◌≡◌, ◌++◌, ◌∷◌, ◌||◌, ℕ, Bool, true, false, List, Contains, map}
-use Rattle.std.specs.Borrow.{Bor}
-use Rattle.std.specs.List.{list_any}
-use Rattle.filterset_expression.specs.Expression.{is_group}
-use Rattle.filterset_expression.specs.FlatExpressions.{IsFlat, has_step}
-use Rattle.filterset_expression.specs.declared.expression.CompiledExpr.{CompiledExpr}
-use Rattle.filterset_expression.specs.declared.query.TestQuery.{TestQuery}
+use Rattle.std.specs.{Borrow.Bor, List.list_any}
+use Rattle.filterset_expression.specs.{Expression.is_group, FlatExpressions.IsFlat, FlatExpressions.has_step}
+use Rattle.filterset_expression.specs.declared.{expression.CompiledExpr.CompiledExpr, query.TestQuery.TestQuery}
 use Rattle.filterset_deciding.specs.AnyTest.{AnyTest, AreAnswers, AreAnswersAsked, AreLaid, Picks, PicksAsked}
-use Rattle.filterset_deciding.specs.Deciding.{IsUnmetAt, answer_of}
-use Rattle.filterset_deciding.specs.declared.listed.LaidQuestion.{LaidQuestion}
-use Rattle.filterset_deciding.specs.declared.question.Question.{Question}
-use Rattle.filterset_deciding.specs.declared.witness.PossibleTest.{PossibleTest}
+use Rattle.filterset_deciding.specs.{Deciding.IsUnmetAt, Deciding.answer_of, declared.listed.LaidQuestion.LaidQuestion}
+use Rattle.filterset_deciding.specs.declared.{question.Question.Question, witness.PossibleTest.PossibleTest}
 
 -- the answer is yes for each of these tests in each of these groups, if the given filterset picks it
 abbrev pub IsMetByAll : Question → CompiledExpr → CompiledExpr → List (Bor CompiledExpr) → List TestQuery → List (Bor (List ℕ))

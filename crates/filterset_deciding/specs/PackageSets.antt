@@ -1,7 +1,6 @@
 -- Sets of packages in a branch.
 use Rattle.std.specs.Prelude.{◌≡◌, ◌≤◌, ℕ, true, List, Contains, Some, None, length}
-use Rattle.filterset_expression.specs.Expression.{Packages}
-use Rattle.filterset_expression.specs.FlatSteps.{Push, step_of}
+use Rattle.filterset_expression.specs.{Expression.Packages, FlatSteps.Push, FlatSteps.step_of}
 use Rattle.filterset_deciding.specs.declared.running.ValuedStep.{ValuedStep}
 
 -- the step is no leaf with a set of packages and a value

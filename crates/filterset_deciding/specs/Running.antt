@@ -1,10 +1,8 @@
 -- Runs of steps on a stack of values, some of which are unknown.
 use Rattle.std.specs.Prelude.{Bool, List, [], ◌∷◌, Option, Some, None, map, reverse}
-use Rattle.filterset_expression.specs.Connectives.{kleene, kleene_not}
-use Rattle.filterset_expression.specs.Expression.{CompiledLeaf}
+use Rattle.filterset_expression.specs.{Connectives.kleene, Connectives.kleene_not, Expression.CompiledLeaf}
 use Rattle.filterset_expression.specs.FlatSteps.{Step, Push, Negate, Combine, step_of}
-use Rattle.filterset_deciding.specs.declared.running.ValuedStep.{ValuedStep}
-use Rattle.filterset_deciding.specs.declared.running.StackValue.{StackValue}
+use Rattle.filterset_deciding.specs.declared.running.{ValuedStep.ValuedStep, StackValue.StackValue}
 
 -- the values of a stack, from the top
 abbrev pub tops : List StackValue → List (Option Bool)

@@ -1,21 +1,13 @@
 -- The search: what it looks for, and its branches.
 use Rattle.std.specs.Prelude.{◌≡◌, ◌↔◌, Bool, false, List, [], ◌∷◌, IsTrue, length}
-use Rattle.std.specs.Borrow.{Bor}
-use Rattle.std.specs.List.{AllZip, count_by, flat_map, AllByRecursion}
-use Rattle.std.specs.declared.vec.Vec.{Vec}
-use Rattle.std.specs.declared.alloc.Global.{Global}
-use Rattle.filterset_expression.specs.Expression.{CompiledLeaf}
-use Rattle.filterset_expression.specs.FlatSteps.{Step, Push, postfix}
+use Rattle.std.specs.{Borrow.Bor, List.AllZip, List.count_by, List.flat_map, List.AllByRecursion}
+use Rattle.std.specs.declared.{vec.Vec.Vec, alloc.Global.Global}
+use Rattle.filterset_expression.specs.{Expression.CompiledLeaf, FlatSteps.Step, FlatSteps.Push, FlatSteps.postfix}
 use Rattle.filterset_expression.specs.Formula.{Formula, TrueWhere}
 use Rattle.filterset_expression.specs.declared.expression.CompiledExpr.{CompiledExpr}
-use Rattle.filterset_deciding.specs.AnyTest.{AnyTest, AreAnswers, Says}
-use Rattle.filterset_deciding.specs.Deciding.{IsOf}
-use Rattle.filterset_deciding.specs.Question.{is_met}
-use Rattle.filterset_deciding.specs.declared.witness.PossibleTest.{PossibleTest}
-use Rattle.filterset_deciding.specs.Judging.{met}
-use Rattle.filterset_deciding.specs.Known.{Agrees, steps_in}
-use Rattle.filterset_deciding.specs.declared.question.Question.{Question}
-use Rattle.filterset_deciding.specs.declared.running.ValuedStep.{ValuedStep}
+use Rattle.filterset_deciding.specs.{AnyTest.AnyTest, AnyTest.AreAnswers, AnyTest.Says, Deciding.IsOf, Judging.met}
+use Rattle.filterset_deciding.specs.{Known.Agrees, Known.steps_in, Question.is_met, declared.question.Question.Question}
+use Rattle.filterset_deciding.specs.declared.{running.ValuedStep.ValuedStep, witness.PossibleTest.PossibleTest}
 
 -- the steps of formulas, one after the other
 abbrev pub all_steps : List (Formula CompiledLeaf) → List (Step CompiledLeaf)

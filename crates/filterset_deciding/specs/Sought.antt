@@ -3,8 +3,7 @@ use Rattle.std.specs.Prelude.{◌↔◌, ℕ, List, IsUtf8, chars, string_bytes}
 use Rattle.filterset_texts.specs.Parts as part
 use Rattle.filterset_texts.specs.declared.part.Condition.{Condition}
 use Rattle.filterset_deciding.specs.Texts.{AreComparisons, HasUnsearched, IsMetBy, Meets}
-use Rattle.filterset_deciding.specs.declared.demand.Demand.{Demand}
-use Rattle.filterset_deciding.specs.declared.texts.Sought.{Sought}
+use Rattle.filterset_deciding.specs.declared.{demand.Demand.Demand, texts.Sought.Sought}
 use Rattle.filterset_deciding.specs.declared.texts.Sought.TheVariants.{Text, Nothing, Stopped, Unknown}
 
 -- what was found about the demands is so

@@ -1,10 +1,9 @@
 -- Texts that meet demands.
 use Rattle.std.specs.Prelude.{◌≡◌, ◌↔◌, ◌<◌, ◌⊎◌, ◌++◌, ℕ, Bool, true, false, List, [], ◌∷◌, Contains, IsTrue}
 use Rattle.std.specs.List.{AllByRecursion, flat_map}
-use Rattle.filterset_matchers.specs.Equality.{compared}
-use Rattle.filterset_matchers.specs.Matcher as matcher
-use Rattle.filterset_matchers.specs.Matcher.{ByComparing, Matcher, MatchesName}
+use Rattle.filterset_matchers.specs.{Equality.compared, Matcher.ByComparing, Matcher.Matcher, Matcher.MatchesName}
 use Rattle.filterset_matchers.specs.Matchers.{matcher_of}
+use Rattle.filterset_matchers.specs.Matcher as matcher
 use Rattle.filterset_texts.specs.Expanding.{IsPattern, matcher_sequence_count}
 use Rattle.filterset_deciding.specs.declared.demand.Demand.{Demand}
 

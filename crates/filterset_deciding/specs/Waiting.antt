@@ -1,11 +1,8 @@
 -- Values on a stack that are unknown, and the leaves that they wait for.
 use Rattle.std.specs.Prelude.{◌≡◌, ◌<◌, ◌≢◌, ◌+◌, ℕ, zero, suc, Bool, List, [], ◌∷◌, Contains, Option, None, get_or, length}
-use Rattle.std.specs.declared.vec.Vec.{Vec}
-use Rattle.std.specs.declared.alloc.Global.{Global}
-use Rattle.filterset_expression.specs.Expression.{CompiledLeaf}
-use Rattle.filterset_expression.specs.FlatSteps.{Step, Push, step_of}
-use Rattle.filterset_deciding.specs.declared.running.StackValue.{StackValue}
-use Rattle.filterset_deciding.specs.declared.running.ValuedStep.{ValuedStep}
+use Rattle.std.specs.declared.{vec.Vec.Vec, alloc.Global.Global}
+use Rattle.filterset_expression.specs.{Expression.CompiledLeaf, FlatSteps.Step, FlatSteps.Push, FlatSteps.step_of}
+use Rattle.filterset_deciding.specs.declared.running.{StackValue.StackValue, ValuedStep.ValuedStep}
 
 -- the value is known
 abbrev pub IsSettled : StackValue → Type 0

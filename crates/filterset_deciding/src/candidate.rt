@@ -1,10 +1,7 @@
 //! Makes a test that agrees with a branch, if there is one.
 ghost use Rattle.std.specs.Prelude.{◌≡◌, IfErr, IfOk, string_bytes};
-ghost use Rattle.filterset_deciding.specs.AnyTest.{AnyTest};
-ghost use Rattle.filterset_deciding.specs.Aspects.{AgreesOn, IsOfField, text_of};
-ghost use Rattle.filterset_deciding.specs.Candidates.{IsFaultOf};
-ghost use Rattle.filterset_deciding.specs.Deciding.{IsOf};
-ghost use Rattle.filterset_deciding.specs.Known.{Agrees};
+ghost use Rattle.filterset_deciding.specs.{AnyTest.AnyTest, Aspects.AgreesOn, Aspects.IsOfField, Aspects.text_of};
+ghost use Rattle.filterset_deciding.specs.{Candidates.IsFaultOf, Deciding.IsOf, Known.Agrees};
 
 use crate::aspects::{are_constants_right, find_platform};
 use crate::demand::{Doubt, TestField, doubt_of};

@@ -1,12 +1,10 @@
 //! Decides questions about filtersets.
 ghost use Rattle.std.specs.Prelude.{◌≡◌, ◌⊎◌, ◌<◌, ◌+◌, ◌*◌, ◌^◌, ◌++◌, IfOk, OnOk, length};
-ghost use Rattle.filterset_expression.specs.Contexts.{default_of};
-ghost use Rattle.filterset_expression.specs.Expression.{with_default};
+ghost use Rattle.filterset_expression.specs.{Contexts.default_of, Expression.with_default};
 ghost use Rattle.filterset_expression.specs.FlatSteps.{steps_of, postfix};
 ghost use Rattle.filterset_deciding.specs.Deciding.{IsAlwaysMet, IsUnmetAt, leaves_asked, steps_asked};
 ghost use Rattle.filterset_deciding.specs.Demands.{HasUncompared, IsDoubtAbout};
-ghost use Rattle.filterset_deciding.specs.Texts.{AreComparisons, HasUnsearched};
-ghost use Rattle.filterset_deciding.specs.declared.demand.Doubt.{Doubt};
+ghost use Rattle.filterset_deciding.specs.{Texts.AreComparisons, Texts.HasUnsearched, declared.demand.Doubt.Doubt};
 
 use crate::demand::Doubt;
 use crate::question::Question;

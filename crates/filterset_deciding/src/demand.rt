@@ -1,15 +1,13 @@
 //! What the values of a branch demand of a text of a test.
 ghost use Rattle.std.specs.Prelude.{◌≡◌, ◌↔◌, Contains, IfNone, IfOk, IfSome, IsTrue, Some};
 ghost use Rattle.std.specs.List.{AllByRecursion};
-ghost use Rattle.filterset_expression.specs.Expression.{compiled_leaf};
-ghost use Rattle.filterset_expression.specs.FlatSteps.{step_of};
+ghost use Rattle.filterset_expression.specs.{Expression.compiled_leaf, FlatSteps.step_of};
 ghost use Rattle.filterset_deciding.specs.AnyTest.{AnyTest};
 ghost use Rattle.filterset_deciding.specs.Aspects.{AgreesOn, IsKnownOn, IsOfField, text_of};
 ghost use Rattle.filterset_deciding.specs.Demands.{IsDemandedBy, IsDoubtIn, field_of};
 ghost use Rattle.filterset_deciding.specs.Texts.{AreComparisons, HasUnsearched, IsAmong, Meets};
+ghost use Rattle.filterset_deciding.specs.{declared.demand.Demand.Demand, Known.steps_in};
 ghost use Rattle.filterset_matchers.specs.Equality.{compared};
-ghost use Rattle.filterset_deciding.specs.declared.demand.Demand.{Demand};
-ghost use Rattle.filterset_deciding.specs.Known.{steps_in};
 
 use crate::running::ValuedStep;
 use filterset_expression::{FiltersetLeaf, FlatStep};

@@ -2,8 +2,7 @@
 ghost use Rattle.std.specs.Prelude.{◌≡◌, ◌↔◌, ℕ, List, Some, None, Contains, IfOk, IsTrue, if◌then◌else◌};
 ghost use Rattle.filterset_expression.specs.Expression.{compiled_leaf};
 ghost use Rattle.filterset_matchers.specs.Matchers.{matcher_of};
-ghost use Rattle.filterset_deciding.specs.AnyTest.{AnyTest, Says};
-ghost use Rattle.filterset_deciding.specs.Known.{IsKnown, IsKnownOfText};
+ghost use Rattle.filterset_deciding.specs.{AnyTest.AnyTest, AnyTest.Says, Known.IsKnown, Known.IsKnownOfText};
 
 use crate::literals::{begin_apart, literal_of};
 use filterset_expression::FiltersetLeaf;

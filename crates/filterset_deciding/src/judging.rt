@@ -1,9 +1,8 @@
 //! What the values of filtersets say about a question.
 ghost use Rattle.std.specs.Prelude.{◌≡◌, ℕ, Bool, List, true, false, map, length};
 ghost use Rattle.std.specs.List.{AllByRecursion, count_by};
-ghost use Rattle.filterset_deciding.specs.Question.{is_met};
 ghost use Rattle.filterset_deciding.specs.Judging.{is_yes, is_maybe, Fits, IsUnmetFor, met};
-ghost use Rattle.filterset_deciding.specs.Waiting.{IsSettled, WaitsAt};
+ghost use Rattle.filterset_deciding.specs.{Question.is_met, Waiting.IsSettled, Waiting.WaitsAt};
 
 use crate::question::Question;
 use crate::running::StackValue;

@@ -2,8 +2,7 @@
 ghost use Rattle.std.specs.Prelude.{◌≡◌, ◌↔◌, ◌∷◌, ◌++◌, [], Bool, List, Contains, IsTrue};
 ghost use Rattle.std.specs.Borrow.{Bor};
 ghost use Rattle.filterset_expression.specs.declared.expression.CompiledExpr.{CompiledExpr};
-ghost use Rattle.filterset_deciding.specs.AnyTest.{AnyTest, Picks, AreAnswers};
-ghost use Rattle.filterset_deciding.specs.Deciding.{IsAlwaysMet};
+ghost use Rattle.filterset_deciding.specs.{AnyTest.AnyTest, AnyTest.Picks, AnyTest.AreAnswers, Deciding.IsAlwaysMet};
 ghost use Rattle.filterset_deciding.specs.declared.question.Question.TheVariants.{AllAlike, AtLeastOne, AtMostOne};
 
 /// Proves that two filtersets that are always alike have the same answer for each test of the given filterset.

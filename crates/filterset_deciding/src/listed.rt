@@ -1,14 +1,10 @@
 //! Tests of a list for which the answer to a question is no.
 ghost use Rattle.std.specs.Prelude.{◌≡◌, ℕ, All, Contains, IfNone, IfOk, IfSome, IsUtf8, List, map, string_bytes};
-ghost use Rattle.std.specs.Borrow.{Bor};
-ghost use Rattle.std.specs.List.{count_by, list_any};
-ghost use Rattle.filterset_expression.specs.Contexts.{default_of};
-ghost use Rattle.filterset_expression.specs.Expression.{is_group};
-ghost use Rattle.filterset_expression.specs.FlatExpressions.{has_step};
+ghost use Rattle.std.specs.{Borrow.Bor, List.count_by, List.list_any};
+ghost use Rattle.filterset_expression.specs.{Contexts.default_of, Expression.is_group, FlatExpressions.has_step};
 ghost use Rattle.filterset_expression.specs.declared.expression.CompiledExpr as compiled;
 ghost use Rattle.filterset_expression.specs.declared.query.TestQuery as queries;
-ghost use Rattle.filterset_deciding.specs.AnyTest.{HasTexts};
-ghost use Rattle.filterset_deciding.specs.Deciding.{IsAbout};
+ghost use Rattle.filterset_deciding.specs.{AnyTest.HasTexts, Deciding.IsAbout};
 ghost use Rattle.filterset_deciding.specs.Listed.{AreOfQuestion, IsFirstUnmet, IsMetAsked, IsMetByAll, IsUnmetAsked, IsUnmetIn, asks_group};
 
 use crate::question::Question;

@@ -1,12 +1,9 @@
 //! Matchers that match one text alone, and globs that begin with different literals.
 ghost use Rattle.std.specs.Prelude.{◌≡◌, ℕ, Bool, List, IfNone, IfOk, IfSome, IsTrue};
-ghost use Rattle.filterset_glob.specs.Matching.{Matches};
-ghost use Rattle.filterset_glob.specs.Tokens.{tokens_of};
+ghost use Rattle.filterset_glob.specs.{Matching.Matches, Tokens.tokens_of};
 ghost use Rattle.filterset_matchers.specs.Matchers.{matcher_of};
 ghost use Rattle.filterset_matchers.specs.Matcher as matcher;
-ghost use Rattle.filterset_deciding.specs.Globs.{are_literals};
-ghost use Rattle.filterset_deciding.specs.Known.{IsLiteralOf};
-ghost use Rattle.filterset_deciding.specs.Texts.{IsEqual};
+ghost use Rattle.filterset_deciding.specs.{Globs.are_literals, Known.IsLiteralOf, Texts.IsEqual};
 
 use filterset_glob::{GenericGlob, GlobToken};
 use filterset_matchers::NameMatcher;

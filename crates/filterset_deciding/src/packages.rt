@@ -1,13 +1,10 @@
 //! The packages that a test of a branch can be of.
 ghost use Rattle.std.specs.Prelude.{◌≡◌, ◌↔◌, ◌≤◌, ◌<◌, Contains, List, ℕ, Some, IfNone, IfOk, IfSome, IsTrue, length, true, false};
-ghost use Rattle.std.specs.Borrow.{Bor};
-ghost use Rattle.std.specs.List.{AllByRecursion};
-ghost use Rattle.filterset_deciding.specs.AnyTest.{AnyTest};
-ghost use Rattle.filterset_deciding.specs.Aspects.{AgreesOn, IsKnownOn, is_of_package};
+ghost use Rattle.std.specs.{Borrow.Bor, List.AllByRecursion};
+ghost use Rattle.filterset_deciding.specs.{AnyTest.AnyTest, Aspects.AgreesOn, Aspects.IsKnownOn, Aspects.is_of_package};
 ghost use Rattle.filterset_deciding.specs.Known.{Agrees};
 ghost use Rattle.filterset_deciding.specs.PackageSets.{IsInNone, IsOfNoPackage, IsWithin};
-ghost use Rattle.filterset_expression.specs.Expression.{Packages};
-ghost use Rattle.filterset_expression.specs.FlatSteps.{Push, step_of};
+ghost use Rattle.filterset_expression.specs.{Expression.Packages, FlatSteps.Push, FlatSteps.step_of};
 
 use crate::running::ValuedStep;
 use filterset_expression::{FiltersetLeaf, FlatStep};

@@ -1,11 +1,10 @@
 //! Runs of steps on a stack, where the values of some leaves are known.
 ghost use Rattle.std.specs.Prelude.{◌≡◌, ◌<◌, [], List, Some, None, IfOk, IfSome, MatchOption, get_or, length, true, if◌then◌else◌};
+ghost use Rattle.std.specs.List.{AllByRecursion};
 ghost use Rattle.filterset_expression.specs.Connectives.{kleene};
 ghost use Rattle.filterset_expression.specs.FlatSteps.{step_of, Negate, Combine};
-ghost use Rattle.std.specs.List.{AllByRecursion};
 ghost use Rattle.filterset_deciding.specs.Running.{kleene_step, kleene_run, tops};
-ghost use Rattle.filterset_deciding.specs.Waiting.{WaitsIn};
-ghost use Rattle.filterset_deciding.specs.declared.running.ValuedStep.{ValuedStep};
+ghost use Rattle.filterset_deciding.specs.{Waiting.WaitsIn, declared.running.ValuedStep.ValuedStep};
 
 use filterset_expression::{Connective, FlatStep, Logic};
 use std::alloc::{AllocError, Global};

@@ -1,16 +1,12 @@
 //! The search for a test for which the answer to a question is no.
 ghost use Rattle.std.specs.Prelude.{◌≡◌, ◌⊎◌, ◌<◌, ◌≤◌, ◌+◌, ◌^◌, ℕ, List, IfNone, IfOk, IfSome, OnOk, get_or, length};
-ghost use Rattle.filterset_expression.specs.Contexts.{default_of};
+ghost use Rattle.filterset_expression.specs.{Contexts.default_of, Expression.CompiledLeaf, Expression.compiled_leaf};
 ghost use Rattle.filterset_expression.specs.FlatSteps.{Push, Step, step_of, steps_of};
-ghost use Rattle.filterset_expression.specs.Expression.{CompiledLeaf, compiled_leaf};
-ghost use Rattle.filterset_deciding.specs.AnyTest.{AnyTest};
-ghost use Rattle.filterset_deciding.specs.Candidates.{HasOpen, IsLeftDoubt};
-ghost use Rattle.filterset_deciding.specs.Deciding.{IsUnmetAt, formulas_asked};
-ghost use Rattle.filterset_deciding.specs.Known.{steps_in};
+ghost use Rattle.filterset_deciding.specs.{AnyTest.AnyTest, Candidates.HasOpen, Candidates.IsLeftDoubt};
+ghost use Rattle.filterset_deciding.specs.{Deciding.IsUnmetAt, Deciding.formulas_asked, Known.steps_in};
 ghost use Rattle.filterset_deciding.specs.Searching.{AgreesWith, HaveSteps, IsMissed, NoneAgrees, Refuses, Rejects, all_steps, pushed};
 ghost use Rattle.filterset_deciding.specs.Waiting.{IsOpenAt, all_nodes, nodes, opens};
-ghost use Rattle.filterset_deciding.specs.declared.demand.Doubt.{Doubt};
-ghost use Rattle.filterset_deciding.specs.declared.running.ValuedStep.{ValuedStep};
+ghost use Rattle.filterset_deciding.specs.declared.{demand.Doubt.Doubt, running.ValuedStep.ValuedStep};
 
 use crate::branch::{narrow, start_branch};
 use crate::candidate::{NoCandidate, make_candidate};

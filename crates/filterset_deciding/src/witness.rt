@@ -1,10 +1,8 @@
 //! Possible tests, and whether the answer to a question is no for one.
-ghost use Rattle.std.specs.Prelude.{◌≡◌, IfOk, string_bytes};
+ghost use Rattle.std.specs.{Prelude.◌≡◌, Prelude.IfOk, Prelude.string_bytes, List.AllZip};
 ghost use Rattle.filterset_expression.specs.Contexts.{default_of};
-ghost use Rattle.std.specs.List.{AllZip};
 ghost use Rattle.filterset_deciding.specs.AnyTest.{in_group, AreLaid, HasTexts, IsPickOf};
-ghost use Rattle.filterset_deciding.specs.Deciding.{IsAbout};
-ghost use Rattle.filterset_deciding.specs.Searching.{AreAnswersAt};
+ghost use Rattle.filterset_deciding.specs.{Deciding.IsAbout, Searching.AreAnswersAt};
 
 use filterset_expression::{
     BinaryQuery, CompiledExpr, EvalContext, FlatExpr, GroupLookup, TestQuery,

@@ -1,16 +1,11 @@
 -- Filtersets that have the texts that they get, and what documents become.
 use Rattle.std.proofs.Common.{◌≡◌, ℕ, Bool, true, false, Global, Option, None, Some, refl, arith, ◌+◌, ◌<◌, ◌∙◌, ◌++◌, ◌∷◌, [], List, String, ap, drop, get_or, length, map, nat_eq, option_map, string_bytes, subst, sym, take}
-use Rattle.std.proofs.lemmas.Bool.{false≢true}
-use Rattle.std.proofs.lemmas.List.{drop_more, map-append}
+use Rattle.std.proofs.lemmas.{Bool.false≢true, List.drop_more, List.map-append}
 use Rattle.std.proofs.lemmas.Slice.Eq.{bytes_eq-Decides, slice_eq-Decides}
 use Rattle.std.specs.Bool.{Decides, OnFalse, OnTrue}
-use Rattle.std.specs.Borrow.{Bor}
-use Rattle.std.specs.Cmp.Derive.Mapped.{pointwise-map}
-use Rattle.std.specs.Cmp.Lexicographic.{pointwise}
-use Rattle.std.specs.Prelude.{Vec, is_none, is_some, not}
-use Rattle.std.specs.Str.{bytes_eq}
-use Rattle.filterset_entries.specs.Checked.{TextRow}
-use Rattle.filterset_entries.specs.Entries.{line_rows, rows_in}
+use Rattle.std.specs.{Borrow.Bor, Cmp.Derive.Mapped.pointwise-map, Cmp.Lexicographic.pointwise}
+use Rattle.std.specs.{Prelude.Vec, Prelude.is_none, Prelude.is_some, Prelude.not, Str.bytes_eq}
+use Rattle.filterset_entries.specs.{Checked.TextRow, Entries.line_rows, Entries.rows_in}
 use Rattle.filterset_entries.specs.declared.entries.ConfiguredTexts.{ConfiguredTexts}
 use Rattle.filterset_drawing.specs.declared.source.Source.{Source}
 use Rattle.filterset_faults.specs.declared.kind.FiltersetKind.TheVariants as kinds

@@ -4,20 +4,14 @@ use Rattle.std.specs.Prelude.{IsSomeAnd, None, Option, Some, if◌then◌else◌
 use Rattle.std.proofs.lemmas.List.{append-nil, drop-drop, get_or-drop, get_or-map, get_or_default, length-drop, length-map, length-take-le}
 use Rattle.std.proofs.lemmas.List.Elements.{All-append, All-cons, All-head, All-nil, All-tail, All-weaker}
 use Rattle.std.proofs.lemmas.Str.{IsCharBoundary-from_rest}
-use Rattle.std.specs.List.Sorted.{IsNonDecreasingBy}
-use Rattle.std.specs.Option.{option_map_or}
-use Rattle.std.specs.Str.{IsCharBoundary, bytes_eq}
-use Rattle.std.specs.Borrow.{Bor}
+use Rattle.std.specs.{List.Sorted.IsNonDecreasingBy, Option.option_map_or, Str.IsCharBoundary, Str.bytes_eq, Borrow.Bor}
 use Rattle.filterset_entries.specs.Checked.{TextRow, text_row}
-use Rattle.filterset_entries.specs.declared.text.TextEntry.{TextEntry}
-use Rattle.filterset_entries.specs.Placements.{Placement}
+use Rattle.filterset_entries.specs.{declared.text.TextEntry.TextEntry, Placements.Placement}
 use Rattle.filterset_editor.specs.Positions.{Text}
-use Rattle.filterset_configuration.specs.Numbers.{AreApart}
-use Rattle.filterset_configuration.specs.declared.stretch.Stretch.{Stretch}
+use Rattle.filterset_configuration.specs.{Numbers.AreApart, declared.stretch.Stretch.Stretch}
 use Rattle.filterset_documents.specs.Edits.{EditRow, IsBetween, IsWithin, ReplacesOne, edited_from, rewrites, row_edits, written_at}
 use Rattle.filterset_documents.specs.Filtersets.{stretch_at}
-use Rattle.filterset_documents.proofs.BecomingLemmas.{now_of}
-use Rattle.filterset_documents.proofs.JoinLemmas.{rows_more}
+use Rattle.filterset_documents.proofs.{BecomingLemmas.now_of, JoinLemmas.rows_more}
 
 -- ---- edits of a text from an offset on
 

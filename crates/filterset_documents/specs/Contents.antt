@@ -1,10 +1,7 @@
 -- What documents hold, and whether a document holds the same as another but with other texts.
 use Rattle.std.specs.Prelude.{◌≡◌, ◌⊎◌, Bool, false, List, [], ◌∷◌, MatchBool, None, Option, Some, String, Vec, is_none, map, option_map, string_bytes, unwrap_or}
-use Rattle.std.specs.Bool.{Decides}
-use Rattle.std.specs.Borrow.{Bor}
-use Rattle.std.specs.declared.alloc.Global.{Global}
-use Rattle.filterset_entries.specs.Checked.{TextRow, text_row}
-use Rattle.filterset_entries.specs.Entries.{line_rows, rows_in}
+use Rattle.std.specs.{Bool.Decides, Borrow.Bor, declared.alloc.Global.Global}
+use Rattle.filterset_entries.specs.{Checked.TextRow, Checked.text_row, Entries.line_rows, Entries.rows_in}
 use Rattle.filterset_entries.specs.declared.entries.ConfiguredTexts.{ConfiguredTexts}
 use Rattle.filterset_drawing.specs.declared.source.Source.{Source}
 use Rattle.filterset_editor.specs.Positions.{Text}
@@ -13,8 +10,7 @@ use Rattle.filterset_sources.specs.Configurations.{IsConfiguration, RefusesConfi
 use Rattle.filterset_sources.specs.declared.configuration.Configuration.{Configuration}
 use Rattle.filterset_sources.specs.declared.refusal.SourceRefusal.{SourceRefusal}
 use Rattle.filterset_documents.specs.Filtersets.{AreTexts, AreTextsOf, SaysWhy}
-use Rattle.filterset_documents.specs.declared.content.Content.{Content}
-use Rattle.filterset_documents.specs.declared.content.Filtersets.{Filtersets}
+use Rattle.filterset_documents.specs.declared.content.{Content.Content, Filtersets.Filtersets}
 use Rattle.filterset_documents.specs.declared.content.Filtersets.TheVariants.{Configured, Lines}
 
 -- the filtersets of a document, and the names of the groups of a configuration

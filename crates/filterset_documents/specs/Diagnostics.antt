@@ -1,31 +1,20 @@
 -- The diagnostics of documents.
 use Rattle.std.specs.Prelude.{◌≡◌, ◌++◌, ◌-◌, ℕ, List, [], Option, None, Some, MatchOption, false, codes, is_some, length, string_bytes, unwrap_or}
-use Rattle.std.specs.List.{AllZip}
-use Rattle.std.specs.Option.{option_map_or}
+use Rattle.std.specs.{List.AllZip, Option.option_map_or}
 use Rattle.serde_json.specs.Data.{Data, number, unsigned, string, object, member, no_members}
 use Rattle.toml.specs.Errors.{span_start, span_end}
-use Rattle.filterset_entries.specs.Checked.{HasFaults, TextRow}
-use Rattle.filterset_entries.specs.Names.{KnowsNames}
+use Rattle.filterset_entries.specs.{Checked.HasFaults, Checked.TextRow, Names.KnowsNames}
 use Rattle.filterset_entries.specs.Placements.{Placement, file_part}
-use Rattle.filterset_entries.specs.Unread.{AreUnreadRemarks}
-use Rattle.filterset_entries.specs.declared.names.Names.{Names}
+use Rattle.filterset_entries.specs.{Unread.AreUnreadRemarks, declared.names.Names.Names}
 use Rattle.filterset_drawing.specs.Remarks.{RemarkRow}
-use Rattle.filterset_drawing.specs.declared.remark.Severity.{Severity}
-use Rattle.filterset_drawing.specs.declared.remark.Severity.TheVariants.{Error, Warning}
+use Rattle.filterset_drawing.specs.declared.remark.Severity.{Severity, TheVariants.Error, TheVariants.Warning}
 use Rattle.filterset_drawing.specs.declared.source.FileSpan.{FileSpan}
-use Rattle.filterset_editor.specs.Positions.{Text}
-use Rattle.filterset_editor.specs.declared.positions.Encoding.{Encoding}
-use Rattle.filterset_faults.specs.Span.{span}
-use Rattle.filterset_faults.specs.declared.span.SourceSpan.{SourceSpan}
-use Rattle.filterset_configuration.specs.Places.{file_span}
-use Rattle.filterset_configuration.specs.Wrong.{AreWrongValues}
-use Rattle.filterset_configuration.specs.declared.wrong.WrongValue.{WrongValue}
-use Rattle.filterset_sources.specs.declared.refusal.SourceRefusal.{SourceRefusal}
+use Rattle.filterset_editor.specs.{Positions.Text, declared.positions.Encoding.Encoding}
+use Rattle.filterset_faults.specs.{Span.span, declared.span.SourceSpan.SourceSpan}
+use Rattle.filterset_configuration.specs.{Places.file_span, Wrong.AreWrongValues, declared.wrong.WrongValue.WrongValue}
+use Rattle.filterset_sources.specs.declared.refusal.SourceRefusal.{SourceRefusal, TheVariants.NotToml}
 use Rattle.filterset_sources.specs.declared.refusal.SourceRefusal.TheVariants as sources
-use Rattle.filterset_sources.specs.declared.refusal.SourceRefusal.TheVariants.{NotToml}
-use Rattle.filterset_documents.specs.Contents.{ContentRow}
-use Rattle.filterset_documents.specs.Joins.{Joins}
-use Rattle.filterset_documents.specs.Ranges.{IsRange}
+use Rattle.filterset_documents.specs.{Contents.ContentRow, Joins.Joins, Ranges.IsRange}
 
 -- ---- a diagnostic
 

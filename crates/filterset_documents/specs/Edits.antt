@@ -1,21 +1,14 @@
 -- Changes of texts.
 use Rattle.std.specs.Prelude.{◌≡◌, ◌≤◌, ◌-◌, ◌++◌, ◌==◌, ◌||◌, ℕ, All, Bool, Contains, IsSomeAnd, List, [], ◌∷◌, chars, codes, drop, encode_utf8, map, string_bytes, take, if◌then◌else◌}
-use Rattle.std.specs.List.{AllZip, flat_map, list_any}
-use Rattle.std.specs.Option.{option_map_or}
-use Rattle.std.specs.List.Sorted.{IsNonDecreasingBy, IsPermutation}
-use Rattle.std.specs.Str.{IsCharBoundary, bytes_eq}
+use Rattle.std.specs.{List.AllZip, List.flat_map, List.list_any, Option.option_map_or}
+use Rattle.std.specs.{List.Sorted.IsNonDecreasingBy, List.Sorted.IsPermutation, Str.IsCharBoundary, Str.bytes_eq}
 use Rattle.serde_json.specs.Data.{Data, array, string, object, member, no_members}
 use Rattle.serde_json.specs.View.{items_of}
-use Rattle.filterset_entries.specs.Checked.{TextRow}
-use Rattle.filterset_entries.specs.Placements.{TextSpot, line, literal}
-use Rattle.filterset_editor.specs.Positions.{Text}
-use Rattle.filterset_editor.specs.declared.positions.Encoding.{Encoding}
-use Rattle.filterset_editor.specs.declared.positions.Range.{Range}
-use Rattle.filterset_configuration.specs.Numbers.{AreApart}
-use Rattle.filterset_configuration.specs.declared.stretch.Stretch.{Stretch}
+use Rattle.filterset_entries.specs.{Checked.TextRow, Placements.TextSpot, Placements.line, Placements.literal}
+use Rattle.filterset_editor.specs.{Positions.Text, declared.positions.Encoding.Encoding, declared.positions.Range.Range}
+use Rattle.filterset_configuration.specs.{Numbers.AreApart, declared.stretch.Stretch.Stretch}
 use Rattle.filterset_documents.specs.Filtersets.{stretch_at, stretch_span}
-use Rattle.filterset_documents.specs.Ranges.{IsRangeOf, range_data}
-use Rattle.filterset_documents.specs.declared.edits.Edit.{Edit}
+use Rattle.filterset_documents.specs.{Ranges.IsRangeOf, Ranges.range_data, declared.edits.Edit.Edit}
 
 -- this text in place of a stretch of another
 pub record EditRow : Type 0 where

@@ -6,17 +6,13 @@ use Rattle.filterset_entries.specs.Placements.{Placement, TextSpot, line, litera
 use Rattle.filterset_entries.specs.declared.entries.ConfiguredTexts.{ConfiguredTexts}
 use Rattle.filterset_drawing.specs.declared.source.Source.{Source}
 use Rattle.filterset_editor.specs.Positions.{Text}
-use Rattle.filterset_faults.specs.Span.{length_of, offset_of, span}
-use Rattle.filterset_faults.specs.declared.span.SourceSpan.{SourceSpan}
+use Rattle.filterset_faults.specs.{Span.length_of, Span.offset_of, Span.span, declared.span.SourceSpan.SourceSpan}
 use Rattle.filterset_grammar.specs.Tree.{Tree}
-use Rattle.filterset_language.specs.Views.{tree_of}
+use Rattle.filterset_language.specs.{Views.tree_of, declared.tree.ParsedExpr.ParsedExpr}
 use Rattle.filterset_rewriting.specs.Reading.{IsRead, IsUnread}
-use Rattle.filterset_language.specs.declared.tree.ParsedExpr.{ParsedExpr}
 use Rattle.filterset_configuration.specs.Places.{ArePlaces}
-use Rattle.filterset_configuration.specs.declared.places.Places.{Places}
-use Rattle.filterset_configuration.specs.declared.stretch.Stretch.{Stretch}
-use Rattle.filterset_sources.specs.Configurations.{configured_rows}
-use Rattle.filterset_sources.specs.declared.configuration.Configuration.{Configuration}
+use Rattle.filterset_configuration.specs.declared.{places.Places.Places, stretch.Stretch.Stretch}
+use Rattle.filterset_sources.specs.{Configurations.configured_rows, declared.configuration.Configuration.Configuration}
 use Rattle.filterset_sources.specs.declared.configuration.ConfiguredFilterset.{ConfiguredFilterset}
 use Rattle.filterset_sources.specs.declared.refusal.SourceRefusal.{SourceRefusal}
 use Rattle.filterset_sources.specs.declared.refusal.SourceRefusal.TheVariants.{NotToml, WrongValue}

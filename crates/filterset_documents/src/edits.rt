@@ -1,11 +1,8 @@
 //! Changes of texts.
 ghost use Rattle.std.specs.Prelude.{◌≡◌, ◌++◌, ◌-◌, ◌↔◌, All, IfNone, IfOk, IfSome, IsSome, List, OnOk, drop, length, map, string_bytes, take};
-ghost use Rattle.std.specs.List.{AllZip};
-ghost use Rattle.std.specs.Str.{bytes_eq};
-ghost use Rattle.serde_json.specs.Data.{Data, array};
-ghost use Rattle.serde_json.specs.View.{items_of, view};
-ghost use Rattle.filterset_entries.specs.Checked.{text_row};
-ghost use Rattle.filterset_entries.specs.Placements.{spot_of};
+ghost use Rattle.std.specs.{List.AllZip, Str.bytes_eq};
+ghost use Rattle.serde_json.specs.{Data.Data, Data.array, View.items_of, View.view};
+ghost use Rattle.filterset_entries.specs.{Checked.text_row, Placements.spot_of};
 ghost use Rattle.filterset_documents.specs.Edits.{AreEditsOf, AreRewrites, IsEdit, IsWithin, ReplacesOne, edit_data, edit_row, edited, rewrites, row_edits, written_at};
 ghost use Rattle.filterset_documents.specs.Ranges.{range_data};
 

@@ -1,7 +1,6 @@
 //! What is at an offset of a document.
 ghost use Rattle.std.specs.Prelude.{◌≡◌, find, option_map};
-ghost use Rattle.filterset_entries.specs.Checked.{text_row};
-ghost use Rattle.filterset_entries.specs.Placements.{placement_of};
+ghost use Rattle.filterset_entries.specs.{Checked.text_row, Placements.placement_of};
 ghost use Rattle.filterset_documents.specs.Filtersets.{is_in, is_placed_at, is_row_at};
 
 use crate::places::{stretch_at, stretch_span};

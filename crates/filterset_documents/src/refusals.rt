@@ -1,8 +1,7 @@
 //! The diagnostics of texts that are no configuration.
 ghost use Rattle.std.specs.Prelude.{◌≡◌, ◌-◌, ◌∷◌, [], IfOk, codes, map, string_bytes};
-ghost use Rattle.serde_json.specs.Data.{Data};
+ghost use Rattle.serde_json.specs.{Data.Data, View.view};
 ghost use Rattle.filterset_editor.specs.Positions.{Text};
-ghost use Rattle.serde_json.specs.View.{view};
 ghost use Rattle.toml.specs.Errors.{span_end, span_start};
 ghost use Rattle.filterset_faults.specs.Span.{span};
 ghost use Rattle.filterset_sources.specs.Configurations.{RefusesConfiguration};

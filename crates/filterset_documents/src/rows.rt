@@ -1,13 +1,12 @@
 //! The diagnostics of filtersets.
 ghost use Rattle.std.specs.Prelude.{◌≡◌, IfOk, map, option_map};
 ghost use Rattle.serde_json.specs.View.{view};
-ghost use Rattle.filterset_entries.specs.Checked.{text_row};
-ghost use Rattle.filterset_entries.specs.Placements.{placement_of};
+ghost use Rattle.filterset_entries.specs.{Checked.text_row, Placements.placement_of};
 ghost use Rattle.nextest_filtering.specs.Groups.{IsKnown};
 ghost use Rattle.filterset_documents.specs.Contents.{names_in};
 ghost use Rattle.filterset_documents.specs.Diagnostics.{AreDiagnosed, DiagnosesContent, RowDiagnostics, fault_span};
-ghost use Rattle.filterset_drawing.specs.Remarks.{remark_row};
 ghost use Rattle.filterset_documents.specs.Joins.{Joins};
+ghost use Rattle.filterset_drawing.specs.Remarks.{remark_row};
 
 use crate::diagnostics::remark_value;
 use crate::ranges::Shown;

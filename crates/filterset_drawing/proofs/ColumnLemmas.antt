@@ -1,13 +1,9 @@
 -- Widths of characters, and the columns of texts.
 use Rattle.std.proofs.Common.{◌≡◌, ℕ, ◌+◌, ◌*◌, ◌<◌, ◌≤◌, Bool, true, false, cond, ◌&&◌, nat_le, nat_lt, List, [], ◌∷◌, ◌++◌, length, take, Option, Some, None, unwrap_or, refl, sym, ap, ◌∙◌, arith, ⊎_elim, zero-add, add-zero, append-nil, append_assoc, length-append}
-use Rattle.std.specs.Prelude.{filter, sum_by, encode_utf8, encode_utf8_all}
-use Rattle.std.specs.List.{enumerate_from}
+use Rattle.std.specs.{Prelude.filter, Prelude.sum_by, Prelude.encode_utf8, Prelude.encode_utf8_all, List.enumerate_from}
 use Rattle.std.proofs.Math.Bool.{and-false}
-use Rattle.std.proofs.lemmas.Bool.{and_from, cases_lt, le-leb, le-ltb, lt-leb, lt-ltb}
-use Rattle.std.proofs.lemmas.Bool.Decides.{nat_tests}
-use Rattle.std.proofs.lemmas.List.{length_push, take_at}
-use Rattle.std.proofs.lemmas.List.Elements.{filter-append}
-use Rattle.std.proofs.lemmas.List.Sums.{sum_by-append, sum_by-cons}
+use Rattle.std.proofs.lemmas.Bool.{and_from, cases_lt, le-leb, le-ltb, lt-leb, lt-ltb, Decides.nat_tests}
+use Rattle.std.proofs.lemmas.List.{length_push, take_at, Elements.filter-append, Sums.sum_by-append, Sums.sum_by-cons}
 use Rattle.std.proofs.lemmas.Str.{encodes-append, length-encode, len_utf8_bounds}
 use Rattle.unicode_width.specs.Width.{char_width}
 use Rattle.unicode_width.proofs.Rules.{width_or_zero-le}

@@ -1,14 +1,11 @@
 -- The lines of a text, one after the other.
 use Rattle.std.proofs.Common.{◌≡◌, ℕ, zero, suc, ◌+◌, ◌-◌, ◌<◌, ◌≤◌, Bool, true, false, cond, List, [], ◌∷◌, ◌++◌, length, map, take, drop, get_or, refl, sym, ap, ap₂, subst, ◌∙◌, ◌==◌, arith, add-zero, zero-add, ⊎_elim}
-use Rattle.std.specs.Prelude.{sum_by}
-use Rattle.std.specs.List.{onto_first, slice_split}
+use Rattle.std.specs.{Prelude.sum_by, List.onto_first, List.slice_split}
 use Rattle.std.proofs.lemmas.Bool.{cases_lt}
 use Rattle.std.proofs.lemmas.List.{drop_more, get_or-map, length-map, length-take-le, map-append, take-append-drop}
 use Rattle.std.proofs.lemmas.List.Sums.{sum_by-cons, sum_by_more}
-use Rattle.filterset_drawing.specs.Columns.{Text}
-use Rattle.filterset_drawing.specs.Cutting.{line_row, lines_of, numbered}
-use Rattle.filterset_drawing.specs.Lines.{IsIn, IsLine, LineRow, pieces}
-use Rattle.filterset_drawing.specs.declared.line.Line.{Line}
+use Rattle.filterset_drawing.specs.{Columns.Text, Cutting.line_row, Cutting.lines_of, Cutting.numbered}
+use Rattle.filterset_drawing.specs.{Lines.IsIn, Lines.IsLine, Lines.LineRow, Lines.pieces, declared.line.Line.Line}
 
 -- the bytes of these lines, with the position at the end of each
 abbrev pub extent : List Text → ℕ

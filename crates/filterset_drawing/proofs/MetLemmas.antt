@@ -5,16 +5,13 @@ use Rattle.std.proofs.Math.Nat.{le-max_left}
 use Rattle.std.proofs.lemmas.Bool.{not-false as rises, not-true as falls, cases_lt, leb-false, leb-true, lt-leb}
 use Rattle.std.proofs.lemmas.List.{get_or-drop, get_or-map, get_or-take, get_or_at, length-append, length-drop, length-map, length-take}
 use Rattle.std.proofs.lemmas.List.Sorted.{IsNonDecreasingBy-take}
-use Rattle.filterset_drawing.specs.Columns.{Text}
-use Rattle.filterset_drawing.specs.Cutting.{line_row, lines_of, numbered, reaches}
+use Rattle.filterset_drawing.specs.{Columns.Text, Cutting.line_row, Cutting.lines_of, Cutting.numbered, Cutting.reaches}
 use Rattle.filterset_drawing.specs.Drawings.{DrawnSpan, bar, location_part, marked_lines}
 use Rattle.filterset_drawing.specs.Lines.{AreMet, IsLine, LineRow, Meets, column_of, from_of, to_of}
 use Rattle.filterset_drawing.specs.Locations.{StandsAt, StandsIn}
-use Rattle.filterset_drawing.specs.declared.drawing.Margin.{Margin}
-use Rattle.filterset_drawing.specs.declared.line.Line.{Line}
-use Rattle.filterset_drawing.specs.declared.source.Location.{Location}
-use Rattle.filterset_faults.specs.declared.span.SourceSpan.{SourceSpan}
+use Rattle.filterset_drawing.specs.declared.{drawing.Margin.Margin, line.Line.Line, source.Location.Location}
 use Rattle.filterset_drawing.proofs.LineLemmas.{ends-before, extent, is-line, line-at, numbered-append, row, some-line}
+use Rattle.filterset_faults.specs.declared.span.SourceSpan.{SourceSpan}
 
 -- a line that begins no later than the last position of a stretch, and does not end before it, is met
 meets : (from to : ℕ) (line : LineRow) → line.start ≤ max from (to - 1) → from ≤ line.start + length line.text → Meets from to line

@@ -1,13 +1,9 @@
 -- Annotations of a GitHub workflow.
 use Rattle.std.specs.Prelude.{◌≡◌, ℕ, ◌++◌, ◌==◌, [], Option, Some, None, chars, codes, decimal, encode_utf8, if◌then◌else◌}
 use Rattle.std.specs.List.{flat_map}
-use Rattle.filterset_drawing.specs.Columns.{Text}
-use Rattle.filterset_drawing.specs.declared.annotation.Region.{Region}
-use Rattle.filterset_drawing.specs.declared.escaping.Part.{Part}
-use Rattle.filterset_drawing.specs.declared.source.FileSpan.{FileSpan}
-use Rattle.filterset_drawing.specs.Lines.{from_of, to_of}
-use Rattle.filterset_drawing.specs.Locations.{EndsAt, StandsAt}
-use Rattle.filterset_drawing.specs.Remarks.{RemarkRow, word_of}
+use Rattle.filterset_drawing.specs.{Columns.Text, declared.annotation.Region.Region, declared.escaping.Part.Part}
+use Rattle.filterset_drawing.specs.{declared.source.FileSpan.FileSpan, Lines.from_of, Lines.to_of}
+use Rattle.filterset_drawing.specs.{Locations.EndsAt, Locations.StandsAt, Remarks.RemarkRow, Remarks.word_of}
 use Rattle.filterset_drawing.specs.declared.escaping.Part.TheVariants.{Message, Property}
 
 -- what a character of a message is written as: 37 is '%', 13 a carriage return and 10 a line feed

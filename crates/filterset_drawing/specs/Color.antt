@@ -1,9 +1,7 @@
 -- Which sequences begin and end a colour.
 use Rattle.std.specs.Prelude.{[], ◌∷◌, codes}
-use Rattle.filterset_drawing.specs.declared.color.Color.{Color}
-use Rattle.filterset_drawing.specs.declared.color.Color.TheVariants.{Never, Always}
-use Rattle.filterset_drawing.specs.declared.remark.Severity.{Severity}
-use Rattle.filterset_drawing.specs.declared.remark.Severity.TheVariants.{Error, Warning}
+use Rattle.filterset_drawing.specs.declared.color.Color.{Color, TheVariants.Never, TheVariants.Always}
+use Rattle.filterset_drawing.specs.declared.remark.Severity.{Severity, TheVariants.Error, TheVariants.Warning}
 use Rattle.filterset_drawing.specs.Columns.{Text}
 
 abbrev pub red : Text

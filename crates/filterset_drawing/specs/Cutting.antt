@@ -1,9 +1,7 @@
 -- How the code cuts a text into lines. Only private contracts cite this; LineLemmas and MetLemmas show that it finds the
 -- lines that Lines defines.
 use Rattle.std.specs.Prelude.{ℕ, ◌+◌, Bool, nat_le, List, [], ◌∷◌, length}
-use Rattle.filterset_drawing.specs.declared.line.Line.{Line}
-use Rattle.filterset_drawing.specs.Columns.{Text}
-use Rattle.filterset_drawing.specs.Lines.{LineRow, pieces}
+use Rattle.filterset_drawing.specs.{declared.line.Line.Line, Columns.Text, Lines.LineRow, Lines.pieces}
 
 abbrev pub line_row : Line → LineRow
 line_row line = record { number = line.number; start = line.start; text = line.text.now }

@@ -2,14 +2,11 @@
 use Rattle.std.specs.Prelude.{◌≡◌, ℕ, ◌-◌, ◌++◌, List, [], Option, Some, None, codes, decimal, length, replicate}
 use Rattle.std.specs.List.{flat_map}
 use Rattle.filterset_faults.specs.declared.span.SourceSpan.{SourceSpan}
-use Rattle.filterset_drawing.specs.declared.color.Color.{Color}
-use Rattle.filterset_drawing.specs.declared.drawing.Margin.{Margin}
-use Rattle.filterset_drawing.specs.declared.source.Location.{Location}
+use Rattle.filterset_drawing.specs.declared.{color.Color.Color, drawing.Margin.Margin, source.Location.Location}
 use Rattle.filterset_drawing.specs.Color.{blue, mark_of, painted, plain, red}
 use Rattle.filterset_drawing.specs.Columns.{Text, drawn}
 use Rattle.filterset_drawing.specs.Lines.{AreMet, LineRow, caret_count, column_of, from_of, pieces, to_of}
-use Rattle.filterset_drawing.specs.Locations.{StandsAt}
-use Rattle.filterset_drawing.specs.Remarks.{RemarkRow, word_of}
+use Rattle.filterset_drawing.specs.{Locations.StandsAt, Remarks.RemarkRow, Remarks.word_of}
 
 -- what stands left of a text: as many columns as the number of its last line takes
 abbrev pub margin_of : Color → Text → Margin

@@ -1,15 +1,9 @@
 -- What is written of a remark as JSON.
 use Rattle.std.specs.Prelude.{◌≡◌, ℕ, Option, Some, None, codes, option_map}
 use Rattle.serde_json.specs.Data.{Data, Members, null, number, unsigned, string, object, member, no_members, put}
-use Rattle.filterset_faults.specs.Span.{offset_of, length_of}
-use Rattle.filterset_faults.specs.declared.span.SourceSpan.{SourceSpan}
-use Rattle.filterset_drawing.specs.declared.json.Spot.{Spot}
-use Rattle.filterset_drawing.specs.declared.source.FileSpan.{FileSpan}
-use Rattle.filterset_drawing.specs.declared.source.Location.{Location}
-use Rattle.filterset_drawing.specs.Columns.{Text}
-use Rattle.filterset_drawing.specs.Lines.{from_of}
-use Rattle.filterset_drawing.specs.Locations.{StandsAt}
-use Rattle.filterset_drawing.specs.Remarks.{RemarkRow, word_of}
+use Rattle.filterset_faults.specs.{Span.offset_of, Span.length_of, declared.span.SourceSpan.SourceSpan}
+use Rattle.filterset_drawing.specs.declared.{json.Spot.Spot, source.FileSpan.FileSpan, source.Location.Location}
+use Rattle.filterset_drawing.specs.{Columns.Text, Lines.from_of, Locations.StandsAt, Remarks.RemarkRow, Remarks.word_of}
 
 abbrev pub text_data : Option Text → Data
 text_data None = null

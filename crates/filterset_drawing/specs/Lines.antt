@@ -1,8 +1,7 @@
 -- Which lines a text has, and which of them a stretch of it meets.
 use Rattle.std.specs.Prelude.{◌≡◌, ℕ, ◌+◌, ◌-◌, ◌<◌, ◌≤◌, ◌==◌, ◌⊎◌, ◌↔◌, max, min, List, ◌∷◌, ◌++◌, AllPairs, Contains, length, sum_by}
 use Rattle.std.specs.List.{slice_split}
-use Rattle.filterset_faults.specs.Span.{offset_of, length_of}
-use Rattle.filterset_faults.specs.declared.span.SourceSpan.{SourceSpan}
+use Rattle.filterset_faults.specs.{Span.offset_of, Span.length_of, declared.span.SourceSpan.SourceSpan}
 use Rattle.filterset_drawing.specs.Columns.{Text, columns_between}
 
 -- a line: its number, how many bytes stand before it, and its text without the line feed that ends it

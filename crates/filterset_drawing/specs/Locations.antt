@@ -1,7 +1,6 @@
 -- In which line and column a position of a text stands.
 use Rattle.std.specs.Prelude.{◌≡◌, ℕ, ◌+◌, ◌-◌, max}
-use Rattle.filterset_drawing.specs.declared.source.Location.{Location}
-use Rattle.filterset_drawing.specs.Columns.{Text}
+use Rattle.filterset_drawing.specs.{declared.source.Location.Location, Columns.Text}
 use Rattle.filterset_drawing.specs.Lines.{LineRow, IsIn, IsLine, column_of}
 
 -- The location of a position of the text, by the line that has the position `at`. Lines and columns count from 1 on.

@@ -1,12 +1,9 @@
 -- What a remark says.
 use Rattle.std.specs.Prelude.{Option, codes, option_map, string_bytes}
 use Rattle.filterset_faults.specs.Faults.{code_of, message_of, span_of, label_of, help_of}
-use Rattle.filterset_faults.specs.declared.span.SourceSpan.{SourceSpan}
-use Rattle.filterset_faults.specs.declared.error.ParseSingleError.{ParseSingleError}
-use Rattle.filterset_drawing.specs.declared.remark.Severity.{Severity}
-use Rattle.filterset_drawing.specs.declared.remark.Severity.TheVariants.{Error, Warning}
-use Rattle.filterset_drawing.specs.declared.remark.Remark.{Remark}
-use Rattle.filterset_drawing.specs.Columns.{Text}
+use Rattle.filterset_faults.specs.declared.{span.SourceSpan.SourceSpan, error.ParseSingleError.ParseSingleError}
+use Rattle.filterset_drawing.specs.declared.remark.Severity.{Severity, TheVariants.Error, TheVariants.Warning}
+use Rattle.filterset_drawing.specs.{declared.remark.Remark.Remark, Columns.Text}
 
 abbrev pub word_of : Severity → Text
 word_of Error = codes "error"

@@ -1,8 +1,7 @@
 //! Annotations of a GitHub workflow.
 ghost use Rattle.std.specs.Prelude.{◌≡◌, ◌++◌, OnOk, option_map, string_bytes};
 ghost use Rattle.filterset_drawing.specs.Annotations.{Annotation, IsRegionOf, command, region_text};
-ghost use Rattle.filterset_drawing.specs.Columns.{Text};
-ghost use Rattle.filterset_drawing.specs.Remarks.{remark_row};
+ghost use Rattle.filterset_drawing.specs.{Columns.Text, Remarks.remark_row};
 
 use crate::escaping::{Part, push_escaped};
 use crate::remark::Remark;

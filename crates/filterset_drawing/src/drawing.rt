@@ -2,8 +2,7 @@
 ghost use Rattle.std.specs.Prelude.{◌≡◌, ◌++◌, IfOk, OnOk, map, option_map, string_bytes};
 ghost use Rattle.filterset_drawing.specs.Columns.{Text};
 ghost use Rattle.filterset_drawing.specs.Drawings.{Drawing, DrawnSpan, addition_part, bar, caret_line, label_part, location_part, margin_line, margin_of, marked_lines, text_line, title};
-ghost use Rattle.filterset_drawing.specs.Cutting.{line_row};
-ghost use Rattle.filterset_drawing.specs.Remarks.{remark_row};
+ghost use Rattle.filterset_drawing.specs.{Cutting.line_row, Remarks.remark_row};
 
 use crate::color::{BLUE, Color, PLAIN, RED, mark_of};
 use crate::column::{push_drawn, push_repeated};

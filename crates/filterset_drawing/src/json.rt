@@ -1,9 +1,7 @@
 //! Remarks as JSON, for editors.
 ghost use Rattle.std.specs.Prelude.{◌≡◌, IfOk, OnOk, option_map};
-ghost use Rattle.serde_json.specs.Data.{put};
-ghost use Rattle.serde_json.specs.View.{members_view, view};
-ghost use Rattle.filterset_drawing.specs.Json.{BeginsAt, BeginsIn, IsSpotOf, RemarkData, number_data, text_data};
-ghost use Rattle.filterset_drawing.specs.Json.{with_file_spot, with_remark, with_spot};
+ghost use Rattle.serde_json.specs.{Data.put, View.members_view, View.view};
+ghost use Rattle.filterset_drawing.specs.Json.{BeginsAt, BeginsIn, IsSpotOf, RemarkData, number_data, text_data, with_file_spot, with_remark, with_spot};
 ghost use Rattle.filterset_drawing.specs.Remarks.{remark_row};
 
 use crate::remark::Remark;

@@ -1,10 +1,8 @@
 -- Changes, one behind the other.
 use Rattle.std.proofs.Common.{◌≡◌, ℕ, ◌+◌, ◌<◌, List, [], ◌∷◌, ◌++◌, length, take, get_or, refl, sym, subst}
 use Rattle.std.proofs.lemmas.List.{take_more}
-use Rattle.filterset_editor.specs.declared.edits.Change.{Change}
-use Rattle.filterset_editor.specs.declared.positions.Encoding.{Encoding}
-use Rattle.filterset_editor.specs.Positions.{Text}
-use Rattle.filterset_editor.specs.Edits.{AreChanged, IsChanged}
+use Rattle.filterset_editor.specs.declared.{edits.Change.Change, positions.Encoding.Encoding}
+use Rattle.filterset_editor.specs.{Positions.Text, Edits.AreChanged, Edits.IsChanged}
 
 AreChanged-push : (e : Encoding) (changes : List Change) (old mid new : Text) (change : Change) → AreChanged e old changes mid
     → IsChanged e mid change new → AreChanged e old (changes ++ change ∷ []) new

@@ -1,17 +1,14 @@
 -- Frames are what the reader of heads finds.
 use Rattle.std.proofs.Common.{◌≡◌, ℕ, zero, suc, ◌+◌, ◌-◌, ◌<◌, ◌≤◌, false, ◌==◌, ◌&&◌, [], ◌∷◌, ◌++◌, length, take, drop, get_or, Option, Some, None, option_map, refl, sym, ap, ◌∙◌, subst, inl, inr, arith, append_assoc, length-append}
 use Rattle.std.proofs.Math.Seq.{take-add, take-append-add, drop-append-add, drop-append_seam, take-append_seam}
-use Rattle.std.proofs.lemmas.Bool.{cases_Bool, cases_lt}
-use Rattle.std.proofs.lemmas.Bool.Decides.{nat_tests}
+use Rattle.std.proofs.lemmas.Bool.{cases_Bool, cases_lt, Decides.nat_tests}
 use Rattle.std.proofs.lemmas.List.{take-append-le, drop-append-le, length-drop, length-take-le, take-take, take_all, take-append-drop}
-use Rattle.std.specs.List.{slice_range}
-use Rattle.std.specs.Option.{option_map_or}
-use Rattle.filterset_editor.specs.declared.head.Head.{Head}
-use Rattle.filterset_editor.specs.declared.head.Head.TheVariants.{Partial, Malformed, Whole}
+use Rattle.std.specs.{List.slice_range, Option.option_map_or}
+use Rattle.filterset_editor.proofs.HeadLemmas.{head_from-line}
 use Rattle.filterset_editor.specs.Frames.{Bytes, IsFrame, IsHead, IsMalformed, IsPartial, MayCome, behind_line, line_len, most_of_head}
 use Rattle.filterset_editor.specs.Frames.IsHead.{end_of_head, next_line}
-use Rattle.filterset_editor.specs.Heads.{ended, front, head_from, head_of}
-use Rattle.filterset_editor.proofs.HeadLemmas.{head_from-line}
+use Rattle.filterset_editor.specs.{Heads.ended, Heads.front, Heads.head_from, Heads.head_of, declared.head.Head.Head}
+use Rattle.filterset_editor.specs.declared.head.Head.TheVariants.{Partial, Malformed, Whole}
 
 suc-some : (o : Option ℕ) (len : ℕ) → option_map suc o ≡ Some len → (k : ℕ) × (o ≡ Some k) × (suc k ≡ len)
 suc-some None len h = absurd (cc)

@@ -1,12 +1,8 @@
 -- The loops of heads, a turn at a time.
 use Rattle.std.proofs.Common.{◌≡◌, ℕ, zero, suc, ◌+◌, ◌-◌, ◌*◌, ◌<◌, ◌≤◌, true, false, cond, ◌==◌, ◌&&◌, nat_le, [], ◌∷◌, length, take, drop, get_or, Option, Some, None, option_map, refl, sym, ap, ◌∙◌, arith, add-one, inl, inr}
-use Rattle.std.proofs.lemmas.Bool.{cases_Bool}
-use Rattle.std.proofs.lemmas.Bool.Decides.{nat_tests}
-use Rattle.std.specs.Char.{is_ascii_digit}
-use Rattle.std.proofs.lemmas.List.{at_drop_all}
-use Rattle.std.specs.Option.{option_map_or}
-use Rattle.filterset_editor.specs.declared.head.Head.{Head}
-use Rattle.filterset_editor.specs.declared.head.Head.TheVariants.{Partial, Malformed}
+use Rattle.std.proofs.lemmas.{Bool.cases_Bool, Bool.Decides.nat_tests, List.at_drop_all}
+use Rattle.std.specs.{Char.is_ascii_digit, Option.option_map_or}
+use Rattle.filterset_editor.specs.declared.head.Head.{Head, TheVariants.Partial, TheVariants.Malformed}
 use Rattle.filterset_editor.specs.Frames.{Bytes, allowed, behind_line, line_len, more_digits, most_of_message}
 use Rattle.filterset_editor.specs.Heads.{ended, head_from}
 

@@ -2,11 +2,8 @@
 use Rattle.std.proofs.Common.{◌≡◌, ℕ, ◌+◌, ◌<◌, ◌≤◌, List, [], ◌∷◌, ◌++◌, length, map, drop, get_or, Option, None, Some, option_map, option_and_then, refl, sym, ap, ◌∙◌, append_assoc}
 use Rattle.std.specs.Option.{unwrap_or}
 use Rattle.std.proofs.lemmas.List.{append-nil, at_drop_all, at_drop_more, map_push}
-use Rattle.serde_json.specs.Find.{as_str}
-use Rattle.serde_json.specs.View.{items_view, view}
-use Rattle.serde_json.specs.declared.value.Value.{Value}
-use Rattle.filterset_editor.specs.declared.edits.Change.{Change}
-use Rattle.filterset_editor.specs.declared.positions.Encoding.{Encoding}
+use Rattle.serde_json.specs.{Find.as_str, View.items_view, View.view, declared.value.Value.Value}
+use Rattle.filterset_editor.specs.declared.{edits.Change.Change, positions.Encoding.Encoding}
 use Rattle.filterset_editor.specs.Messages.{ChangeRow, change_in, change_row, changes_in, encoding_named, first_known}
 
 -- ---- encodings

@@ -1,15 +1,11 @@
 -- What is written when memory runs out.
 use Rattle.std.proofs.Common.{◌≡◌, Option, Some, Result, Ok, Err, String, string_bytes, refl, sym, subst, inr}
-use Rattle.std.specs.Option.{MatchOption}
-use Rattle.std.specs.Result.{IfOk}
-use Rattle.std.specs.declared.alloc.AllocError.{AllocError}
-use Rattle.std.specs.declared.alloc.Global.{Global}
-use Rattle.filterset_editor.specs.Machine.{Says, State}
-use Rattle.filterset_editor.specs.Positions.{Text}
+use Rattle.std.specs.{Option.MatchOption, Result.IfOk}
+use Rattle.std.specs.declared.alloc.{AllocError.AllocError, Global.Global}
+use Rattle.filterset_editor.specs.{Machine.Says, Machine.State, Positions.Text}
 use Rattle.filterset_editor.specs.Refusals.{AnswersOrRunsOut, Forgets, IsAround, forgotten_data, uri_of}
 use Rattle.filterset_editor.specs.Written.{Writes}
-use Rattle.filterset_editor.specs.declared.message.Incoming.TheVariants.{Notification}
-use Rattle.filterset_editor.specs.declared.message.Notice.{Notice}
+use Rattle.filterset_editor.specs.declared.message.{Incoming.TheVariants.Notification, Notice.Notice}
 
 -- memory ran out for a notification
 pub notice-refused : (S : Says) (old mid new : State) (notice : Notice) (uri : Text) (r : Result (String Global) AllocError)

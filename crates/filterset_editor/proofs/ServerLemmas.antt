@@ -3,10 +3,8 @@ use Rattle.std.proofs.Common.{◌≡◌, List, Option, None, Some, sym, subst}
 use Rattle.std.specs.Option.{MatchOption}
 use Rattle.serde_json.specs.Data.{Data}
 use Rattle.filterset_editor.specs.Documents.{IsRevised, document_of, put_document}
-use Rattle.filterset_editor.specs.Machine.{Publishes, Says}
-use Rattle.filterset_editor.specs.Positions.{Text}
-use Rattle.filterset_editor.specs.declared.documents.Document.{Document}
-use Rattle.filterset_editor.specs.declared.documents.Revision.{Revision}
+use Rattle.filterset_editor.specs.{Machine.Publishes, Machine.Says, Positions.Text}
+use Rattle.filterset_editor.specs.declared.documents.{Document.Document, Revision.Revision}
 use Rattle.filterset_editor.specs.declared.positions.Encoding.{Encoding}
 
 pub changed-is : (S : Says) (e : Encoding) (uri : Text) (revision : Revision)

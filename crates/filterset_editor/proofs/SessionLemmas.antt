@@ -2,9 +2,7 @@
 use Rattle.std.proofs.Common.{◌≡◌, Bool, false, [], ◌∷◌, ◌++◌, List, Option, None, Some, refl, ap, ◌∙◌, subst, sym, append_assoc, append-nil}
 use Rattle.std.proofs.KnownBytes.{Appends-nil, Appends-trans, Consumes-trans}
 use Rattle.std.specs.Io.KnownBytes.{Appends, Consumes, IsAtEnd, prepend_known}
-use Rattle.filterset_editor.specs.Frames.{Bytes, IsFrame}
-use Rattle.filterset_editor.specs.Machine.{Says, State}
-use Rattle.filterset_editor.specs.Refusals.{Exchange}
+use Rattle.filterset_editor.specs.{Frames.Bytes, Frames.IsFrame, Machine.Says, Machine.State, Refusals.Exchange}
 use Rattle.filterset_editor.specs.Sessions.{GoesOn, IsServing, ReadsPiece, Session, Splits}
 use Rattle.filterset_editor.specs.declared.phase.Phase.TheVariants.{New}
 

@@ -1,11 +1,8 @@
 -- What is written of a message is its frame.
 use Rattle.std.proofs.Common.{◌≡◌, ℕ, ◌+◌, ◌-◌, ◌*◌, ◌/◌, ◌%◌, ◌^◌, ◌<◌, ◌≤◌, true, false, ◌==◌, nat_lt, nat_le, [], ◌∷◌, ◌++◌, length, Some, None, codes, decimal, refl, sym, ap, ◌∙◌, arith, append_assoc, drop, length-append, take}
-use Rattle.std.proofs.lemmas.Bool.Decides.{nat_tests}
-use Rattle.std.proofs.lemmas.Fmt.{decimal_by_steps, length-decimal-le}
-use Rattle.std.proofs.Math.Seq.{take-length}
-use Rattle.std.proofs.lemmas.List.{drop_all}
-use Rattle.std.specs.Char.{is_ascii_digit}
-use Rattle.std.specs.List.{prefix_len}
+use Rattle.std.proofs.lemmas.{Bool.Decides.nat_tests, Fmt.decimal_by_steps, Fmt.length-decimal-le}
+use Rattle.std.proofs.{Math.Seq.take-length, lemmas.List.drop_all}
+use Rattle.std.specs.{Char.is_ascii_digit, List.prefix_len}
 use Rattle.filterset_editor.specs.Frames.{Bytes, IsFrame, IsHead, ReadsBack, behind_line, framed, is_blank, line_len, more_digits, most_of_head, most_of_message}
 use Rattle.filterset_editor.specs.Frames.IsHead.{end_of_head, next_line}
 use Rattle.filterset_editor.proofs.FrameLemmas.{one-frame}

@@ -1,13 +1,8 @@
 -- Documents that are open, and what notifications do to them.
 use Rattle.std.specs.Prelude.{◌≡◌, ◌++◌, ℕ, List, [], ◌∷◌, Option, option_and_then, position, slice_get, slice_set, string_bytes}
-use Rattle.std.specs.List.{remove}
-use Rattle.std.specs.Option.{option_map_or}
-use Rattle.std.specs.Str.{bytes_eq}
-use Rattle.filterset_editor.specs.Edits.{AreChanged}
-use Rattle.filterset_editor.specs.Positions.{Text}
-use Rattle.filterset_editor.specs.declared.documents.Document.{Document}
-use Rattle.filterset_editor.specs.declared.documents.Revision.{Revision}
-use Rattle.filterset_editor.specs.declared.positions.Encoding.{Encoding}
+use Rattle.std.specs.{List.remove, Option.option_map_or, Str.bytes_eq}
+use Rattle.filterset_editor.specs.{Edits.AreChanged, Positions.Text, declared.documents.Document.Document}
+use Rattle.filterset_editor.specs.declared.{documents.Revision.Revision, positions.Encoding.Encoding}
 
 -- what answers about a document go by
 pub record DocumentRow : Type 0 where

@@ -1,9 +1,7 @@
 -- Changes of documents.
 use Rattle.std.specs.Prelude.{◌≡◌, ◌++◌, ℕ, List, [], ◌∷◌, MatchOption, drop, max, string_bytes, take}
 use Rattle.filterset_editor.specs.Positions.{IsOffset, Text}
-use Rattle.filterset_editor.specs.declared.edits.Change.{Change}
-use Rattle.filterset_editor.specs.declared.positions.Encoding.{Encoding}
-use Rattle.filterset_editor.specs.declared.positions.Range.{Range}
+use Rattle.filterset_editor.specs.declared.{edits.Change.Change, positions.Encoding.Encoding, positions.Range.Range}
 
 -- The text is the old one with this text in place of what is between the positions of a range. An end before the start counts
 -- as the start.

@@ -1,8 +1,6 @@
 -- Messages on a stream, as the protocol frames them: a head of lines, the empty one last, and as many bytes as the head says.
 use Rattle.std.specs.Prelude.{◌≡◌, ◌≤◌, ◌<◌, ◌==◌, ◌&&◌, ◌||◌, ◌⊎◌, ◌+◌, ◌*◌, ◌-◌, ◌++◌, ℕ, suc, Bool, List, [], ◌∷◌, Option, None, Some, codes, decimal, drop, is_some, length, nat_le, nat_lt, option_and_then, option_map, position, slice_index, slice_range, take, if◌then◌else◌}
-use Rattle.std.specs.Char.{is_ascii_digit}
-use Rattle.std.specs.List.{prefix_len}
-use Rattle.std.specs.Str.{str_eq_ignore_ascii_case}
+use Rattle.std.specs.{Char.is_ascii_digit, List.prefix_len, Str.str_eq_ignore_ascii_case}
 use Rattle.filterset_editor.specs.declared.frames.Next as next
 
 abbrev pub Bytes : Type 0

@@ -2,8 +2,7 @@
 use Rattle.std.specs.Prelude.{Option, None, Some, codes, option_map, if◌then◌else◌}
 use Rattle.std.specs.Str.{bytes_eq}
 use Rattle.serde_json.specs.Data.{Data}
-use Rattle.filterset_editor.specs.Positions.{Text}
-use Rattle.filterset_editor.specs.Values.{position_at, range_at}
+use Rattle.filterset_editor.specs.{Positions.Text, Values.position_at, Values.range_at}
 use Rattle.filterset_editor.specs.declared.inquiry.Inquiry.{Inquiry}
 use Rattle.filterset_editor.specs.declared.inquiry.Inquiry.TheVariants as inquiries
 

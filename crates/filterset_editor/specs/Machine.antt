@@ -2,14 +2,10 @@
 use Rattle.std.specs.Prelude.{◌≡◌, ℤ, negsuc, true, false, List, [], ◌∷◌, Option, Some, None, MatchOption, codes, map, string_bytes}
 use Rattle.std.specs.Option.{option_map_or}
 use Rattle.serde_json.specs.Data.{Data, null, number, unsigned, boolean, string, array, object, no_members}
-use Rattle.serde_json.specs.Find.{of_integer}
-use Rattle.serde_json.specs.View.{view, items_of}
+use Rattle.serde_json.specs.{Find.of_integer, View.view, View.items_of}
 use Rattle.filterset_editor.specs.Documents.{DocumentRow, IsRevised, document_of, put_document, row_of, without_document}
-use Rattle.filterset_editor.specs.Positions.{Text}
-use Rattle.filterset_editor.specs.Values.{Pair, object_of}
-use Rattle.filterset_editor.specs.declared.documents.Document.{Document}
-use Rattle.filterset_editor.specs.declared.inquiry.Inquiry.{Inquiry}
-use Rattle.filterset_editor.specs.declared.message.Call.{Call}
+use Rattle.filterset_editor.specs.{Positions.Text, Values.Pair, Values.object_of}
+use Rattle.filterset_editor.specs.declared.{documents.Document.Document, inquiry.Inquiry.Inquiry, message.Call.Call}
 use Rattle.filterset_editor.specs.declared.message.Call.TheVariants.{Initialize, Shutdown, About, Wrong, Unknown}
 use Rattle.filterset_editor.specs.declared.message.Incoming.{Incoming}
 use Rattle.filterset_editor.specs.declared.message.Incoming.TheVariants.{Request, Notification, Response, NotJson, NotMessage}

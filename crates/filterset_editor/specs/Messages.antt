@@ -2,24 +2,17 @@
 use Rattle.std.specs.Prelude.{◌≡◌, ℕ, ℤ, List, [], ◌∷◌, Option, None, Some, IsSome, IsUtf8, MatchOption, codes, map, option_and_then, option_map, string_bytes, unwrap_or, if◌then◌else◌}
 use Rattle.std.specs.Str.{bytes_eq}
 use Rattle.serde_json.specs.Data.{Data, Items, no_items, item}
-use Rattle.serde_json.specs.Find.{as_str, get}
-use Rattle.serde_json.specs.Read.{read}
-use Rattle.serde_json.specs.View.{view}
-use Rattle.filterset_editor.specs.Documents.{DocumentRow, row_of}
-use Rattle.filterset_editor.specs.Inquiries.{inquiry_in}
-use Rattle.filterset_editor.specs.Positions.{Text}
+use Rattle.serde_json.specs.{Find.as_str, Find.get, Read.read, View.view}
+use Rattle.filterset_editor.specs.{Documents.DocumentRow, Documents.row_of, Inquiries.inquiry_in, Positions.Text}
 use Rattle.filterset_editor.specs.Values.{array_at, integer_at, range_in, text_at}
-use Rattle.filterset_editor.specs.declared.edits.Change.{Change}
-use Rattle.filterset_editor.specs.declared.message.Incoming.{Incoming}
+use Rattle.filterset_editor.specs.declared.{edits.Change.Change, message.Incoming.Incoming}
 use Rattle.filterset_editor.specs.declared.message.Incoming.TheVariants.{Request, Notification, Response, NotJson, NotMessage}
 use Rattle.filterset_editor.specs.declared.message.Call.{Call}
 use Rattle.filterset_editor.specs.declared.message.Call.TheVariants.{Initialize, Shutdown, About, Wrong, Unknown}
-use Rattle.filterset_editor.specs.declared.message.Notice.{Notice}
-use Rattle.filterset_editor.specs.declared.message.Notice.TheVariants as notices
-use Rattle.filterset_editor.specs.declared.inquiry.Inquiry.{Inquiry}
-use Rattle.filterset_editor.specs.declared.positions.Encoding.{Encoding}
+use Rattle.filterset_editor.specs.declared.{message.Notice.Notice, inquiry.Inquiry.Inquiry, positions.Encoding.Encoding}
 use Rattle.filterset_editor.specs.declared.positions.Encoding.TheVariants.{Utf8, Utf16, Utf32}
 use Rattle.filterset_editor.specs.declared.positions.Range.{Range}
+use Rattle.filterset_editor.specs.declared.message.Notice.TheVariants as notices
 
 -- ---- changes
 

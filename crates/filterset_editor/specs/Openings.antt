@@ -1,14 +1,9 @@
 -- How a session begins: the first message of a stream, and the options that it gives the server.
 use Rattle.std.specs.Prelude.{◌≡◌, ◌⊎◌, ◌&&◌, ◌++◌, [], ◌∷◌, false, Option, None, codes, is_some, option_and_then, if◌then◌else◌}
-use Rattle.std.specs.Io.KnownBytes.{Consumes, IsAtEnd}
-use Rattle.std.specs.Option.{option_map_or}
-use Rattle.std.specs.Str.{bytes_eq}
-use Rattle.serde_json.specs.Data.{Data, number, unsigned, string}
-use Rattle.serde_json.specs.Find.{get, pointer}
+use Rattle.std.specs.{Io.KnownBytes.Consumes, Io.KnownBytes.IsAtEnd, Option.option_map_or, Str.bytes_eq}
+use Rattle.serde_json.specs.{Data.Data, Data.number, Data.unsigned, Data.string, Find.get, Find.pointer}
 use Rattle.filterset_editor.specs.Frames.{Bytes, IsFrame, IsMalformed, IsPartial}
-use Rattle.filterset_editor.specs.Machine.{notification_data}
-use Rattle.filterset_editor.specs.Messages.{IsParsed, method_of}
-use Rattle.filterset_editor.specs.Positions.{Text}
+use Rattle.filterset_editor.specs.{Machine.notification_data, Messages.IsParsed, Messages.method_of, Positions.Text}
 use Rattle.filterset_editor.specs.Values.{object_of}
 
 -- the options of a message, if it is the request `initialize`

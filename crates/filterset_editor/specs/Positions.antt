@@ -1,8 +1,6 @@
 -- Positions in texts, as editors count them: a line, and a column in units of an encoding.
 use Rattle.std.specs.Prelude.{◌≡◌, ◌≤◌, ◌<◌, ◌==◌, ◌&&◌, ◌||◌, ◌+◌, ◌-◌, ℕ, Bool, not, nat_lt, List, [], ◌∷◌, IfSome, MatchOption, Some, chars, drop, length, slice_get, slice_index, sum_by, if◌then◌else◌}
-use Rattle.std.specs.Char.{len_utf8}
-use Rattle.std.specs.List.{AllPass, slice_range}
-use Rattle.std.specs.Str.{IsCharBoundary}
+use Rattle.std.specs.{Char.len_utf8, List.AllPass, List.slice_range, Str.IsCharBoundary}
 use Rattle.filterset_editor.specs.declared.positions.Encoding.{Encoding}
 use Rattle.filterset_editor.specs.declared.positions.Encoding.TheVariants.{Utf8, Utf16, Utf32}
 use Rattle.filterset_editor.specs.declared.positions.Position.{Position}

@@ -1,16 +1,10 @@
 -- What is said when memory runs out, and what the server then still knows.
 use Rattle.std.specs.Prelude.{◌≡◌, ◌⊎◌, [], ◌∷◌, Option, Some, None, MatchOption, codes, string_bytes}
-use Rattle.serde_json.specs.Data.{Data, null, number, unsigned, string}
-use Rattle.serde_json.specs.View.{view}
-use Rattle.filterset_editor.specs.Documents.{without_document}
-use Rattle.filterset_editor.specs.Frames.{Bytes}
+use Rattle.serde_json.specs.{Data.Data, Data.null, Data.number, Data.unsigned, Data.string, View.view}
+use Rattle.filterset_editor.specs.{Documents.without_document, Frames.Bytes}
 use Rattle.filterset_editor.specs.Machine.{Answers, Says, State, error_data, internal_error, published_data}
-use Rattle.filterset_editor.specs.Messages.{IsIncoming}
-use Rattle.filterset_editor.specs.Positions.{Text}
-use Rattle.filterset_editor.specs.Values.{object_of}
-use Rattle.filterset_editor.specs.Written.{Writes}
-use Rattle.filterset_editor.specs.declared.message.Incoming.{Incoming}
-use Rattle.filterset_editor.specs.declared.message.Incoming.TheVariants.{Request, Notification}
+use Rattle.filterset_editor.specs.{Messages.IsIncoming, Positions.Text, Values.object_of, Written.Writes}
+use Rattle.filterset_editor.specs.declared.message.Incoming.{Incoming, TheVariants.Request, TheVariants.Notification}
 use Rattle.filterset_editor.specs.declared.message.Notice.{Notice}
 use Rattle.filterset_editor.specs.declared.message.Notice.TheVariants.{Opened, Changed, Closed}
 

@@ -2,9 +2,7 @@
 use Rattle.std.specs.Prelude.{◌≡◌, ◌<◌, ◌++◌, Bool, false, true, List, [], ◌∷◌, Option, length}
 use Rattle.std.specs.Io.KnownBytes.{Appends, Consumes, IsAtEnd}
 use Rattle.filterset_editor.specs.Frames.{Bytes, IsFrame, IsMalformed, IsPartial}
-use Rattle.filterset_editor.specs.Machine.{Says, State}
-use Rattle.filterset_editor.specs.Refusals.{Exchange}
-use Rattle.filterset_editor.specs.declared.ending.Ending.{Ending}
+use Rattle.filterset_editor.specs.{Machine.Says, Machine.State, Refusals.Exchange, declared.ending.Ending.Ending}
 use Rattle.filterset_editor.specs.declared.ending.Ending.TheVariants.{Exit, InputEnded, Malformed}
 use Rattle.filterset_editor.specs.declared.phase.Phase.TheVariants.{New, Over}
 

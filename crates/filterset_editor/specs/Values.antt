@@ -2,9 +2,7 @@
 use Rattle.std.specs.Prelude.{ℕ, ℤ, List, [], ◌∷◌, Option, codes, option_and_then, option_map}
 use Rattle.serde_json.specs.Data.{Data, Items, Members, object, member, no_members}
 use Rattle.serde_json.specs.Find.{as_array, as_i64, as_number, as_str, as_u64, pointer}
-use Rattle.filterset_editor.specs.Positions.{Text}
-use Rattle.filterset_editor.specs.declared.positions.Position.{Position}
-use Rattle.filterset_editor.specs.declared.positions.Range.{Range}
+use Rattle.filterset_editor.specs.{Positions.Text, declared.positions.Position.Position, declared.positions.Range.Range}
 
 -- the text at a path of keys, if it is one
 abbrev pub text_at : Text → Data → Option Text

@@ -1,7 +1,6 @@
 -- What is written of answers.
 use Rattle.std.specs.Prelude.{◌≡◌, false, [], Option, Some, None}
-use Rattle.serde_json.specs.Data.{Data}
-use Rattle.serde_json.specs.Written.{compact_text, has_float}
+use Rattle.serde_json.specs.{Data.Data, Written.compact_text, Written.has_float}
 use Rattle.filterset_editor.specs.Frames.{Bytes, framed}
 
 -- what is written of an answer: nothing if there is none, else its text in a frame

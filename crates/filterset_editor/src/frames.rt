@@ -2,8 +2,7 @@
 ghost use Rattle.std.specs.Prelude.{◌≡◌, ◌≤◌, IfOk, drop, length, option_map, string_bytes};
 ghost use Rattle.serde_json.specs.View.{view};
 ghost use Rattle.filterset_editor.specs.Frames.{Bytes, IsNext, ReadsBack, framed, most_of_message};
-ghost use Rattle.filterset_editor.specs.Heads.{front};
-ghost use Rattle.filterset_editor.specs.Written.{Writes};
+ghost use Rattle.filterset_editor.specs.{Heads.front, Written.Writes};
 
 use crate::head::{Head, read_head};
 use serde_json::Value;

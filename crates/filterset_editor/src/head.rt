@@ -1,7 +1,6 @@
 //! Reads heads of messages.
 ghost use Rattle.std.specs.Prelude.{◌≡◌, ◌==◌, ◌+◌, ◌*◌, ◌≤◌, ◌<◌, IfSome, length, position};
-ghost use Rattle.std.specs.Char.{is_ascii_digit};
-ghost use Rattle.std.specs.List.{prefix_len};
+ghost use Rattle.std.specs.{Char.is_ascii_digit, List.prefix_len};
 ghost use Rattle.filterset_editor.specs.Frames as spec;
 ghost use Rattle.filterset_editor.specs.Frames.{allowed, most_of_message};
 ghost use Rattle.filterset_editor.specs.Heads.{IsBounded, IsWithin, head_of};

@@ -1,7 +1,6 @@
 //! The lines of a text, so that a position costs a search.
 ghost use Rattle.std.specs.Prelude.{◌≡◌, ◌≤◌, ◌<◌, ◌+◌, ℕ, IfOk, drop, length, slice_index};
-ghost use Rattle.std.specs.List.{slice_range};
-ghost use Rattle.std.specs.Str.{IsCharBoundary};
+ghost use Rattle.std.specs.{List.slice_range, Str.IsCharBoundary};
 ghost use Rattle.filterset_editor.specs.Positions as spec;
 ghost use Rattle.filterset_editor.specs.Positions.{IsOffset, IsPosition, StandsAt, line_starts};
 

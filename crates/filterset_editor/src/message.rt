@@ -1,7 +1,6 @@
 //! Reads what messages of a client say.
 ghost use Rattle.std.specs.Prelude.{◌≡◌, IfOk, codes, map, option_and_then, option_map};
-ghost use Rattle.serde_json.specs.Find.{as_str, get};
-ghost use Rattle.serde_json.specs.View.{items_view, view};
+ghost use Rattle.serde_json.specs.{Find.as_str, Find.get, View.items_view, View.view};
 ghost use Rattle.filterset_editor.specs.Messages as spec;
 ghost use Rattle.filterset_editor.specs.Messages.{IsIncoming, IsParsed, call_row, change_row, said_of};
 

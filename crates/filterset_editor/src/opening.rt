@@ -3,8 +3,7 @@ ghost use Rattle.std.specs.Prelude.{◌≡◌, ◌≢◌, Err, IfOk, IsTrue, OnO
 ghost use Rattle.serde_json.specs.View.{view};
 ghost use Rattle.filterset_editor.specs.Openings as spec;
 ghost use Rattle.filterset_editor.specs.Openings.{GivesOptions, IsOpening, shown_data};
-ghost use Rattle.filterset_editor.specs.Sessions.{ReadsPiece};
-ghost use Rattle.filterset_editor.specs.Written.{Writes};
+ghost use Rattle.filterset_editor.specs.{Sessions.ReadsPiece, Written.Writes};
 
 use crate::frames::{Next, frame_answer, next_frame};
 use crate::message::{method_of, parse_json};

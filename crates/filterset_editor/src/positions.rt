@@ -1,6 +1,5 @@
 //! Positions as editors count them.
-ghost use Rattle.std.specs.Prelude.{◌≡◌, ◌≤◌, chars, length};
-ghost use Rattle.std.specs.Char.{len_utf8};
+ghost use Rattle.std.specs.{Prelude.◌≡◌, Prelude.◌≤◌, Prelude.chars, Prelude.length, Char.len_utf8};
 ghost use Rattle.filterset_editor.specs.Positions as spec;
 
 /// What a column counts.

@@ -1,12 +1,10 @@
 //! What is said when memory runs out.
 ghost use Rattle.std.specs.Prelude.{◌≡◌, IfOk, Some, option_map, string_bytes};
-ghost use Rattle.serde_json.specs.Data.{null};
-ghost use Rattle.serde_json.specs.View.{view};
-ghost use Rattle.filterset_editor.specs.Documents.{without_document};
-ghost use Rattle.filterset_editor.specs.Machine.{error_data, state_of};
-ghost use Rattle.filterset_editor.specs.Refusals as spec;
+ghost use Rattle.serde_json.specs.{Data.null, View.view};
+ghost use Rattle.filterset_editor.specs.{Documents.without_document, Machine.error_data, Machine.state_of};
 ghost use Rattle.filterset_editor.specs.Refusals.{ForgetsAll, forgotten_data, forgotten_diagnostic, refused_data};
 ghost use Rattle.filterset_editor.specs.Written.{Writes};
+ghost use Rattle.filterset_editor.specs.Refusals as spec;
 
 use crate::documents::remove_document;
 use crate::frames::frame_answer;

@@ -1,8 +1,7 @@
 //! The loop of a server.
 ghost use Rattle.std.specs.Prelude.{◌≡◌, ◌≢◌, Err, IfOk, IfSome, IsTrue, OnOk, Some};
 ghost use Rattle.std.specs.Io.KnownBytes.{prepend_known};
-ghost use Rattle.filterset_editor.specs.Frames.{Bytes};
-ghost use Rattle.filterset_editor.specs.Machine.{state_of};
+ghost use Rattle.filterset_editor.specs.{Frames.Bytes, Machine.state_of};
 ghost use Rattle.filterset_editor.specs.Sessions.{GoesOn, IsEnding, Served};
 
 use crate::ending::Ending;

@@ -1,6 +1,5 @@
 //! Reads values of messages.
-ghost use Rattle.std.specs.Prelude.{◌≡◌, option_map};
-ghost use Rattle.std.specs.Str.{bytes_eq};
+ghost use Rattle.std.specs.{Prelude.◌≡◌, Prelude.option_map, Str.bytes_eq};
 ghost use Rattle.serde_json.specs.View.{items_view, view};
 ghost use Rattle.filterset_editor.specs.Values as spec;
 

@@ -1,13 +1,9 @@
 -- The lines of a text, and the pieces between its line feeds.
 use Rattle.std.proofs.Common.{◌≡◌, ℕ, zero, suc, ◌+◌, ◌-◌, ◌<◌, ◌≤◌, ◌==◌, arith, Bool, true, false, List, [], ◌∷◌, length, take, get_or, ◌∙◌, sym, ap}
-use Rattle.std.specs.Prelude.{if◌then◌else◌, slice_index}
-use Rattle.std.specs.List.{zip}
-use Rattle.std.specs.Str.Lines.{lines, lines_of_parts}
-use Rattle.std.proofs.lemmas.List.{length-take-le}
-use Rattle.std.proofs.lemmas.List.Sums.{sum_by_more, sum_by_more_le}
+use Rattle.std.specs.{Prelude.if◌then◌else◌, Prelude.slice_index, List.zip, Str.Lines.lines, Str.Lines.lines_of_parts}
+use Rattle.std.proofs.lemmas.List.{length-take-le, Sums.sum_by_more, Sums.sum_by_more_le}
 use Rattle.std.proofs.lemmas.Slice.Zip.{get_or-zip, length-zip}
-use Rattle.filterset_drawing.specs.Columns.{Text}
-use Rattle.filterset_drawing.specs.Lines.{pieces}
+use Rattle.filterset_drawing.specs.{Columns.Text, Lines.pieces}
 use Rattle.filterset_drawing.proofs.LineLemmas.{extent-slice_split}
 use Rattle.filterset_entries.specs.Entries.{line_start}
 

@@ -1,25 +1,17 @@
 -- The rows of texts that are numbered one after the other, and what else is made piece by piece.
 use Rattle.std.proofs.Common.{◌≡◌, ℕ, ◌+◌, ◌<◌, arith, List, [], ◌∷◌, ◌++◌, length, map, take, get_or, ◌∙◌, sym, ap, refl, Option, None, Some, subst, false, String, Global, string_bytes}
-use Rattle.std.proofs.lemmas.List.{map-append, length-map, length-take-le, take_more}
-use Rattle.std.proofs.lemmas.List.Elements.{filter_map-append}
-use Rattle.std.specs.List.{enumerate_from, filter_map}
-use Rattle.std.specs.Prelude.{option_map, option_to_list}
-use Rattle.std.specs.Borrow.{Bor}
-use Rattle.filterset_drawing.specs.Columns.{Text}
-use Rattle.filterset_faults.specs.declared.kind.FiltersetKind.{FiltersetKind}
-use Rattle.filterset_entries.specs.Checked.{TextRow, text_row}
-use Rattle.filterset_entries.specs.declared.text.TextEntry.{TextEntry}
-use Rattle.filterset_entries.specs.Entries.{numbered_row, numbered_rows}
-use Rattle.serde_json.specs.Data.{Data}
-use Rattle.serde_json.specs.Written.{has_float}
-use Rattle.filterset_drawing.specs.Json.{number_data, text_data, RemarkData}
-use Rattle.filterset_drawing.specs.Remarks.{RemarkRow}
+use Rattle.std.proofs.lemmas.List.{map-append, length-map, length-take-le, take_more, Elements.filter_map-append}
+use Rattle.std.specs.{List.enumerate_from, List.filter_map, Prelude.option_map, Prelude.option_to_list, Borrow.Bor}
+use Rattle.filterset_drawing.specs.{Columns.Text, Json.number_data, Json.text_data, Json.RemarkData, Remarks.RemarkRow}
 use Rattle.filterset_drawing.specs.declared.source.FileSpan.{FileSpan}
+use Rattle.filterset_faults.specs.declared.kind.FiltersetKind.{FiltersetKind}
+use Rattle.filterset_faults.specs.declared.parse_errors.FiltersetParseErrors.{FiltersetParseErrors}
+use Rattle.filterset_entries.specs.{Checked.TextRow, Checked.text_row, declared.text.TextEntry.TextEntry}
+use Rattle.filterset_entries.specs.Entries.{numbered_row, numbered_rows}
+use Rattle.serde_json.specs.{Data.Data, Written.has_float}
 use Rattle.filterset_graph.specs.declared.package.PackageMetadata.{PackageMetadata}
 use Rattle.nextest_filtering.specs.Compiling.{IsRefusalOf, IsRefusedWith}
-use Rattle.nextest_filtering.specs.declared.filterset.ParseRefusal.{ParseRefusal}
-use Rattle.nextest_filtering.specs.declared.filterset.ParseRefusal.TheVariants.{Faults}
-use Rattle.filterset_faults.specs.declared.parse_errors.FiltersetParseErrors.{FiltersetParseErrors}
+use Rattle.nextest_filtering.specs.declared.filterset.ParseRefusal.{ParseRefusal, TheVariants.Faults}
 use Rattle.nextest_filtering.specs.declared.compile.context.KnownGroups.{KnownGroups}
 pub use Rattle.filterset_sources.proofs.TestLemmas.{AllZip-push}
 

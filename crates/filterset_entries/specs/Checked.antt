@@ -1,29 +1,22 @@
 -- Which faults a text has.
 use Rattle.std.specs.Prelude.{◌≡◌, ◌≢◌, ◌≤◌, ◌⊎◌, ℕ, List, [], ◌∷◌, Option, None, Some, codes, false, filter, map, option_map, string_bytes}
-use Rattle.filterset_drawing.specs.Columns.{Text}
-use Rattle.filterset_drawing.specs.Remarks.{RemarkRow, fault_remark, said}
+use Rattle.filterset_drawing.specs.{Columns.Text, Remarks.RemarkRow, Remarks.fault_remark, Remarks.said}
 use Rattle.filterset_drawing.specs.declared.remark.Severity.TheVariants.{Error}
 use Rattle.filterset_expression.specs.Expression.{has_leaf, is_default, is_group}
 use Rattle.filterset_expression.specs.Meaning.{IsCompiled}
-use Rattle.filterset_faults.specs.Span.{span}
-use Rattle.filterset_faults.specs.declared.error.ParseSingleError.{ParseSingleError}
-use Rattle.filterset_faults.specs.declared.kind.FiltersetKind.{FiltersetKind}
+use Rattle.filterset_faults.specs.{Span.span, declared.error.ParseSingleError.ParseSingleError}
+use Rattle.filterset_faults.specs.declared.{kind.FiltersetKind.FiltersetKind, span.SourceSpan.SourceSpan}
 use Rattle.filterset_faults.specs.declared.kind.FiltersetKind.TheVariants as kinds
-use Rattle.filterset_faults.specs.declared.span.SourceSpan.{SourceSpan}
 use Rattle.filterset_graph.specs.declared.package.PackageMetadata.{PackageMetadata}
 use Rattle.filterset_grammar.specs.Tree.{Tree}
 use Rattle.filterset_language.specs.Views.{tree_of}
 use Rattle.nextest_filtering.specs.Compiling.{IsFiltersetOf, IsRefusedWith, packages_of}
-use Rattle.nextest_filtering.specs.declared.compile.context.KnownGroups.{KnownGroups}
-use Rattle.nextest_filtering.specs.declared.filterset.Filterset.{Filterset}
+use Rattle.nextest_filtering.specs.declared.{compile.context.KnownGroups.KnownGroups, filterset.Filterset.Filterset}
 use Rattle.filterset_rewriting.specs.Nesting.Depth.{IsTooDeep, depth, most_levels}
 use Rattle.filterset_rewriting.specs.Reading.{IsRead, IsUnreadFor}
-use Rattle.filterset_rewriting.specs.declared.reading.TextRefusal.{TextRefusal}
-use Rattle.filterset_rewriting.specs.declared.reading.TextRefusal.TheVariants.{Found, TooDeep}
-use Rattle.filterset_entries.specs.Names.{is_judged}
-use Rattle.filterset_entries.specs.Placements.{Placement, placement_of}
-use Rattle.filterset_entries.specs.declared.names.Names.{Names}
-use Rattle.filterset_entries.specs.declared.text.TextEntry.{TextEntry}
+use Rattle.filterset_rewriting.specs.declared.reading.TextRefusal.{TextRefusal, TheVariants.Found, TheVariants.TooDeep}
+use Rattle.filterset_entries.specs.{Names.is_judged, Placements.Placement, Placements.placement_of}
+use Rattle.filterset_entries.specs.declared.{names.Names.Names, text.TextEntry.TextEntry}
 
 -- a filterset's text, what it is to be, and where it stands, also in a file
 pub record TextRow : Type 0 where

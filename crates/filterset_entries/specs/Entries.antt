@@ -1,23 +1,16 @@
 -- Which texts commands check, format or ask, as rows: where a text comes from, what it has to be, and the text.
 use Rattle.std.specs.Prelude.{ℕ, ◌+◌, ◌-◌, ◌==◌, ◌&&◌, ◌||◌, ◌++◌, Bool, false, true, not, List, [], ◌∷◌, None, Option, Some, codes, decimal, drop, filter_map, if◌then◌else◌, length, map, option_map, string_bytes, sum_by, take}
-use Rattle.std.specs.Borrow.{Bor}
-use Rattle.std.specs.List.{enumerate_from}
-use Rattle.std.specs.Str.{bytes_eq, trim_start}
-use Rattle.std.specs.Str.Lines.{lines}
-use Rattle.filterset_drawing.specs.Columns.{Text}
-use Rattle.filterset_drawing.specs.Lines.{pieces}
-use Rattle.filterset_drawing.specs.declared.source.Source.{Source}
+use Rattle.std.specs.{Borrow.Bor, List.enumerate_from, Str.bytes_eq, Str.trim_start, Str.Lines.lines}
+use Rattle.filterset_drawing.specs.{Columns.Text, Lines.pieces, declared.source.Source.Source}
 use Rattle.filterset_faults.specs.declared.kind.FiltersetKind.{FiltersetKind}
 use Rattle.filterset_faults.specs.declared.kind.FiltersetKind.TheVariants as kinds
 use Rattle.filterset_sources.specs.declared.configuration.ConfiguredFilterset.{ConfiguredFilterset}
 use Rattle.filterset_configuration.specs.Places.{place_at}
 use Rattle.filterset_entries.specs.Checked.{TextRow, row_of, text_row}
 use Rattle.filterset_entries.specs.Placements.{Placement, line, literal}
-use Rattle.filterset_entries.specs.declared.entries.ConfiguredTexts.{ConfiguredTexts}
-use Rattle.filterset_entries.specs.declared.question.Question.{Question}
+use Rattle.filterset_entries.specs.declared.{entries.ConfiguredTexts.ConfiguredTexts, question.Question.Question}
+use Rattle.filterset_entries.specs.declared.setting.{OverrideEntry.OverrideEntry, Setting.Setting}
 use Rattle.filterset_entries.specs.declared.question.Question.TheVariants as questions
-use Rattle.filterset_entries.specs.declared.setting.OverrideEntry.{OverrideEntry}
-use Rattle.filterset_entries.specs.declared.setting.Setting.{Setting}
 
 -- the row of a text that is called by a word and a number, as `argument 2`
 abbrev pub numbered_row : Text → FiltersetKind → ℕ → Text → TextRow

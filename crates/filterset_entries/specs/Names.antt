@@ -4,8 +4,7 @@ use Rattle.filterset_drawing.specs.Columns.{Text}
 use Rattle.filterset_faults.specs.declared.error.ParseSingleError.{ParseSingleError}
 use Rattle.filterset_faults.specs.declared.error.ParseSingleError.TheVariants.{NoPackageMatch, NoBinaryIdMatch, NoBinaryNameMatch, NoGroupMatch}
 use Rattle.filterset_graph.specs.declared.package.PackageMetadata.{PackageMetadata}
-use Rattle.nextest_filtering.specs.Compiling.{packages_of}
-use Rattle.nextest_filtering.specs.Groups.{AreGroups}
+use Rattle.nextest_filtering.specs.{Compiling.packages_of, Groups.AreGroups}
 use Rattle.filterset_entries.specs.declared.names.Names.{Names}
 
 -- whether the fault counts: it is about no name, or about a name of which enough is known

@@ -1,15 +1,10 @@
 -- Where texts are in files.
-use Rattle.std.specs.Prelude.{◌+◌, ◌-◌, Option, Some, None, min}
-use Rattle.std.specs.Borrow.{Bor}
-use Rattle.filterset_drawing.specs.declared.source.FileSpan.{FileSpan}
-use Rattle.filterset_drawing.specs.declared.source.Source.{Source}
-use Rattle.filterset_faults.specs.Span.{length_of, offset_of, span}
-use Rattle.filterset_faults.specs.declared.span.SourceSpan.{SourceSpan}
+use Rattle.std.specs.{Prelude.◌+◌, Prelude.◌-◌, Prelude.Option, Prelude.Some, Prelude.None, Prelude.min, Borrow.Bor}
+use Rattle.filterset_drawing.specs.declared.source.{FileSpan.FileSpan, Source.Source}
+use Rattle.filterset_faults.specs.{Span.length_of, Span.offset_of, Span.span, declared.span.SourceSpan.SourceSpan}
 use Rattle.filterset_configuration.specs.Places.{file_span}
-use Rattle.filterset_configuration.specs.declared.place.Place.{Place}
-use Rattle.filterset_configuration.specs.declared.stretch.Stretch.{Stretch}
-use Rattle.filterset_entries.specs.declared.place.FilePlace.{FilePlace}
-use Rattle.filterset_entries.specs.declared.place.Spot.{Spot}
+use Rattle.filterset_configuration.specs.declared.{place.Place.Place, stretch.Stretch.Stretch}
+use Rattle.filterset_entries.specs.declared.place.{FilePlace.FilePlace, Spot.Spot}
 use Rattle.filterset_entries.specs.declared.place.Spot.TheVariants.{Line, Literal}
 
 -- where a text is in its file: a string of a configuration is read as the text, or the text is a line

@@ -5,11 +5,9 @@ use Rattle.filterset_drawing.specs.Columns.{Text}
 use Rattle.filterset_faults.specs.declared.kind.FiltersetKind.{FiltersetKind}
 use Rattle.filterset_faults.specs.declared.kind.FiltersetKind.TheVariants as kinds
 use Rattle.filterset_overrides.specs.declared.asked.AskedProfile.{AskedProfile}
-use Rattle.filterset_configuration.specs.declared.profiles.Profile.{Profile}
-use Rattle.filterset_configuration.specs.declared.ranking.RankedOverride.{RankedOverride}
+use Rattle.filterset_configuration.specs.declared.{profiles.Profile.Profile, ranking.RankedOverride.RankedOverride}
 use Rattle.filterset_entries.specs.Checked.{TextRow, row_of, text_row}
-use Rattle.filterset_entries.specs.Entries.{placement_at}
-use Rattle.filterset_entries.specs.declared.entries.ConfiguredTexts.{ConfiguredTexts}
+use Rattle.filterset_entries.specs.{Entries.placement_at, declared.entries.ConfiguredTexts.ConfiguredTexts}
 use Rattle.filterset_entries.specs.declared.setting.OverrideEntry.{OverrideEntry}
 
 -- the text that a configuration has at a path, and where that is in the file, if it was found there

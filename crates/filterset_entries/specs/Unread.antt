@@ -1,14 +1,11 @@
 -- What nextest does not read of a configuration.
 use Rattle.std.specs.Prelude.{◌≡◌, ◌++◌, ◌∷◌, [], List, None, Option, Some, codes, map, option_map, string_bytes}
-use Rattle.filterset_drawing.specs.Columns.{Text}
-use Rattle.filterset_drawing.specs.Remarks.{RemarkRow, said}
+use Rattle.filterset_drawing.specs.{Columns.Text, Remarks.RemarkRow, Remarks.said}
 use Rattle.filterset_drawing.specs.declared.remark.Severity.TheVariants.{Warning}
 use Rattle.filterset_faults.specs.declared.span.SourceSpan.{SourceSpan}
-use Rattle.filterset_configuration.specs.Keys.{AreUnknownKeys}
-use Rattle.filterset_configuration.specs.declared.unknown.UnknownKey.{UnknownKey}
+use Rattle.filterset_configuration.specs.{Keys.AreUnknownKeys, declared.unknown.UnknownKey.UnknownKey}
 use Rattle.filterset_rewriting.specs.Tokens.{HasCarets}
-use Rattle.filterset_entries.specs.Checked.{TextRow}
-use Rattle.filterset_entries.specs.Placements.{Placement, file_part}
+use Rattle.filterset_entries.specs.{Checked.TextRow, Placements.Placement, Placements.file_part}
 
 -- where a span of a text is in its file
 abbrev pub found_span : Option Placement → SourceSpan → Option SourceSpan

@@ -1,8 +1,7 @@
 //! The texts that commands are about, each with where it comes from.
 ghost use Rattle.std.specs.Prelude.{◌≡◌, ◌≤◌, IfOk, length, map, option_map};
 ghost use Rattle.filterset_entries.specs.Checked.{row_of, text_row};
-ghost use Rattle.filterset_entries.specs.Entries.{default_row, file_row, input_rows, is_passed_over, line_rows, listed_row, numbered_row, numbered_rows};
-ghost use Rattle.filterset_entries.specs.Entries.{placement_at, question_rows, rows_among, rows_in, unmarked};
+ghost use Rattle.filterset_entries.specs.Entries.{default_row, file_row, input_rows, is_passed_over, line_rows, listed_row, numbered_row, numbered_rows, placement_at, question_rows, rows_among, rows_in, unmarked};
 ghost use Rattle.filterset_entries.specs.Placements.{placement_of};
 
 use crate::place::{FilePlace, Spot};

@@ -1,8 +1,7 @@
 //! The faults of a text.
 ghost use Rattle.std.specs.Prelude.{◌≡◌, ◌∷◌, [], IfErr, IfOk, map};
 ghost use Rattle.filterset_drawing.specs.Remarks.{fault_remark, remark_row};
-ghost use Rattle.nextest_filtering.specs.Compiling.{packages_of};
-ghost use Rattle.nextest_filtering.specs.Groups.{IsKnown};
+ghost use Rattle.nextest_filtering.specs.{Compiling.packages_of, Groups.IsKnown};
 ghost use Rattle.filterset_entries.specs.Checked.{HasFaults, IsFiltersetFor, IsRefusedFor, all_remarks, deep_remark, text_row};
 
 use crate::names::Names;

@@ -1,10 +1,7 @@
 //! How remarks are written.
 ghost use Rattle.std.specs.Prelude.{◌≡◌, ◌++◌, OnOk, codes, map, option_map, string_bytes};
-ghost use Rattle.serde_json.specs.Data.{Data};
-ghost use Rattle.serde_json.specs.Written.{compact_text};
-ghost use Rattle.filterset_drawing.specs.Columns.{Text};
-ghost use Rattle.filterset_drawing.specs.Json.{RemarkData};
-ghost use Rattle.filterset_drawing.specs.Remarks.{remark_row};
+ghost use Rattle.serde_json.specs.{Data.Data, Written.compact_text};
+ghost use Rattle.filterset_drawing.specs.{Columns.Text, Json.RemarkData, Remarks.remark_row};
 ghost use Rattle.filterset_json.specs.Pieces.{Pieces};
 ghost use Rattle.filterset_entries.specs.Checked.{text_row};
 ghost use Rattle.filterset_entries.specs.Forms.{FaultPieces, IsWritten, name_of, note_of, writing_of};

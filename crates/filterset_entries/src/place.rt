@@ -1,7 +1,6 @@
 //! Places of texts in files, and spans of predicates in texts.
 ghost use Rattle.std.specs.Prelude.{◌≡◌, option_map};
-ghost use Rattle.filterset_language.specs.Faults.{leaf_span};
-ghost use Rattle.filterset_language.specs.Views.{leaf_of};
+ghost use Rattle.filterset_language.specs.{Faults.leaf_span, Views.leaf_of};
 ghost use Rattle.filterset_entries.specs.Placements.{file_part, placement_of, span_in, spot_of};
 
 use filterset_configuration::{Place, Stretch};

@@ -1,9 +1,7 @@
 //! The texts of a profile, which are its default filter and the filters of its overrides, and the keys that it sets.
 ghost use Rattle.std.specs.Prelude.{◌≡◌, ◌++◌, IfOk, codes, map, option_map, position, string_bytes};
-ghost use Rattle.std.specs.List.{AllZip};
-ghost use Rattle.std.specs.Str.{bytes_eq};
-ghost use Rattle.filterset_entries.specs.Checked.{text_row};
-ghost use Rattle.filterset_entries.specs.Profile.{IsEntryOf, IsProfileOf, row_at};
+ghost use Rattle.std.specs.{List.AllZip, Str.bytes_eq};
+ghost use Rattle.filterset_entries.specs.{Checked.text_row, Profile.IsEntryOf, Profile.IsProfileOf, Profile.row_at};
 
 use crate::entries::{ConfiguredTexts, place_at};
 use crate::setting::OverrideEntry;

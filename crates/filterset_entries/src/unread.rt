@@ -1,8 +1,7 @@
 //! What nextest does not read of a configuration: operators that it has not, and keys that are meant for others.
 ghost use Rattle.std.specs.Prelude.{◌≡◌, ◌++◌, IfOk, List, OnOk, map, option_map};
 ghost use Rattle.filterset_drawing.specs.Remarks.{RemarkRow, remark_row};
-ghost use Rattle.filterset_entries.specs.Checked.{text_row};
-ghost use Rattle.filterset_entries.specs.Placements.{placement_of};
+ghost use Rattle.filterset_entries.specs.{Checked.text_row, Placements.placement_of};
 ghost use Rattle.filterset_entries.specs.Unread.{AreCaretRemarks, AreUnreadRemarks, caret_remark, key_remark, found_span};
 
 use crate::place::{FilePlace, file_part};

@@ -2,8 +2,7 @@
 use Rattle.std.proofs.Common.{◌≡◌, refl, ap, ◌∙◌}
 use Rattle.filterset_grammar.specs.Tree.{Tree}
 use Rattle.filterset_grammar.specs.AddedParens.{IsEnclosedUnless, stands, enclosed, IsWithParens, negation, union, join, parens, leaf}
-use Rattle.filterset_expression.specs.Connectives.{Disjunction}
-use Rattle.filterset_expression.specs.Formula.{Formula, Negation, Compound}
+use Rattle.filterset_expression.specs.{Connectives.Disjunction, Formula.Formula, Formula.Negation, Formula.Compound}
 use Rattle.filterset_expression.specs.Meaning.{joined, tree_formula}
 
 enclosed_formula : {S : Type 0} {may : Type 0} {d f : Tree S} → IsEnclosedUnless may d f → tree_formula f ≡ tree_formula d

@@ -8,15 +8,13 @@ use Rattle.filterset_grammar.specs.Tree.{Tree, Matching, Platform, Default}
 use Rattle.filterset_grammar.specs.declared.predicate.Predicate.TheVariants.{Package, Deps, Rdeps, Kind, Binary, BinaryId, Test, Group}
 use Rattle.filterset_matchers.specs.Matcher.{MatchesName}
 use Rattle.filterset_expression.specs.BinaryMeaning.{EitherLeaf, OfTree, OfDefault, tree_leaf_with_default, tree_with_default, is_of_test_predicate, is_either_of_test, EitherOfBinary, PossibleOfTree, IsDefiniteTree, IsUndecidedTree, TellsTheSame}
-use Rattle.filterset_expression.specs.Expression as compiled
 use Rattle.filterset_expression.specs.Expression.{CompiledLeaf, formula, is_of_test, leaf_with_default, with_default, HoldsOfBinary, Possible, IsDefinite, IsUndecided}
 use Rattle.filterset_expression.specs.Formula.{Formula, Leaf, Negation, Compound, replaced, SameShape}
 use Rattle.filterset_expression.specs.Meaning.{tree_formula, MeansOfBinary, IsCompiledLeaf, IsCompiled}
 use Rattle.filterset_expression.specs.Values.{occurrences, TrueUnder, CanBe}
-use Rattle.filterset_expression.specs.declared.expression.CompiledExpr.{CompiledExpr}
-use Rattle.filterset_expression.specs.declared.query.BinaryQuery.{BinaryQuery}
-use Rattle.filterset_expression.proofs.Connectives.{connects_alike}
-use Rattle.filterset_expression.proofs.Meanings.{alike, alike_at}
+use Rattle.filterset_expression.specs.declared.{expression.CompiledExpr.CompiledExpr, query.BinaryQuery.BinaryQuery}
+use Rattle.filterset_expression.proofs.{Connectives.connects_alike, Meanings.alike, Meanings.alike_at}
+use Rattle.filterset_expression.specs.Expression as compiled
 
 match_alike : (b : Bool) (X P Q : Type 0) → P ↔ Q → MatchBool b X P ↔ MatchBool b X Q
 match_alike true X P Q e = alike X

@@ -3,8 +3,7 @@ use Rattle.std.proofs.Common.{◌≡◌, ◌↔◌, Bool, true, false, Option, S
 use Rattle.std.specs.Bool.{IsTrue}
 use Rattle.std.proofs.lemmas.Bool.{false≢true}
 use Rattle.filterset_expression.specs.Connectives.{Connective, Conjunction, Disjunction, ExclusiveDisjunction, ExactlyOneHolds, Connects, connected, kleene}
-use Rattle.filterset_expression.specs.Formula.{Formula, leaves}
-use Rattle.filterset_expression.specs.Meaning.{joined}
+use Rattle.filterset_expression.specs.{Formula.Formula, Formula.leaves, Meaning.joined}
 use Rattle.filterset_grammar.specs.declared.operators.Joiner.{Joiner}
 use Rattle.filterset_grammar.specs.declared.operators.Joiner.TheVariants.{Both, Without, ExactlyOne}
 

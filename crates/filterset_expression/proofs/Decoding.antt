@@ -1,10 +1,7 @@
 -- Steps read back as formulas, and runs that keep a fold of each formula on the stack.
 use Rattle.std.proofs.Common.{◌≡◌, ◌≤◌, ◌+◌, ◌-◌, ℕ, suc, true, sym, ◌∙◌, subst, refl, arith, List, [], ◌∷◌, ◌++◌, length, drop, length-append, append_assoc, inl, inr, ap}
-use Rattle.std.proofs.Math.Seq.{drop-append_seam}
-use Rattle.std.proofs.lemmas.List.{append-nil}
-use Rattle.std.proofs.lemmas.Bool.{and_parts}
-use Rattle.filterset_expression.specs.Connectives.{Connective}
-use Rattle.filterset_expression.specs.Folds.{Folds}
+use Rattle.std.proofs.{Math.Seq.drop-append_seam, lemmas.List.append-nil, lemmas.Bool.and_parts}
+use Rattle.filterset_expression.specs.{Connectives.Connective, Folds.Folds}
 use Rattle.filterset_expression.specs.Formula.{Formula, Leaf, Negation, Compound}
 use Rattle.filterset_expression.specs.FlatSteps.{Step, Push, Negate, Combine, postfix}
 use Rattle.filterset_expression.specs.Passing.{Advances}

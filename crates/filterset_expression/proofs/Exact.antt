@@ -1,10 +1,8 @@
 -- A fold by the Kleene connectives is definite exactly where every list of answers agrees, and then it is the answer for
 -- every test.
 use Rattle.std.proofs.Common.{◌≡◌, ◌↔◌, ℕ, ◌+◌, Bool, true, false, refl, ap, subst, arith, Option, Some, None, List, [], ◌∷◌, ◌++◌, length, take, drop, replicate, length-append, length-take, length-drop, inl, ⊎_elim}
-use Rattle.std.proofs.lemmas.List.{length-replicate}
-use Rattle.std.proofs.Math.Seq.{take-append_seam, drop-append_seam}
-use Rattle.std.specs.Bool.{IsTrue, MatchBool, one_answer}
-use Rattle.std.specs.Prelude.{IsSomeAnd}
+use Rattle.std.proofs.{lemmas.List.length-replicate, Math.Seq.take-append_seam, Math.Seq.drop-append_seam}
+use Rattle.std.specs.{Bool.IsTrue, Bool.MatchBool, Bool.one_answer, Prelude.IsSomeAnd}
 use Rattle.filterset_expression.specs.Connectives.{Connective, Conjunction, Disjunction, ExclusiveDisjunction, Connects, Decides, connected, kleene, kleene_not}
 use Rattle.filterset_expression.specs.Folds.{Folds, Settles}
 use Rattle.filterset_expression.specs.Formula.{Formula, Leaf, Negation, Compound, TrueWhere}

@@ -1,20 +1,16 @@
 -- Lists of steps, and how they run.
 use Rattle.std.proofs.Common.{◌≡◌, ℕ, zero, suc, ◌+◌, ◌-◌, ◌<◌, ◌≤◌, max, Bool, true, false, ◌||◌, refl, sym, ap, ◌∙◌, subst, List, [], ◌∷◌, ◌++◌, length, drop, get_or, append_assoc, arith}
 use Rattle.std.specs.List.{list_any}
-use Rattle.std.proofs.lemmas.List.{append-nil, drop_more, map-append}
-use Rattle.std.proofs.lemmas.List.Folds.{list_any-append}
-use Rattle.std.proofs.Math.Bool.{or-false}
-use Rattle.std.proofs.lemmas.Bool.{and_parts, or_parts}
-use Rattle.std.proofs.lemmas.Bool.Decides.{nat_tests}
+use Rattle.std.proofs.lemmas.List.{append-nil, drop_more, map-append, Folds.list_any-append}
+use Rattle.std.proofs.{Math.Bool.or-false, lemmas.Bool.and_parts, lemmas.Bool.or_parts, lemmas.Bool.Decides.nat_tests}
 use Rattle.filterset_expression.specs.Connectives.{Connective}
-use Rattle.filterset_expression.specs.Expression as compiled
 use Rattle.filterset_expression.specs.Expression.{CompiledLeaf, formula, is_default, is_group, leaf_with_default, with_default, has_leaf}
 use Rattle.filterset_expression.specs.FlatExpressions.{leaf_passes}
 use Rattle.filterset_expression.specs.Formula.{Formula, Leaf, Negation, Compound, leaves, replaced}
 use Rattle.filterset_expression.specs.Running.{leaf_or, one_less, height_after, finds_operands, leaves_one, greatest_height}
 use Rattle.filterset_expression.specs.FlatSteps.{Step, Negate, Combine, steps_by, push_leaf, postfix, step_of, steps_of}
-use Rattle.filterset_expression.specs.declared.expression.CompiledExpr.{CompiledExpr}
-use Rattle.filterset_expression.specs.declared.flat.steps.FlatStep.{FlatStep}
+use Rattle.filterset_expression.specs.declared.{expression.CompiledExpr.CompiledExpr, flat.steps.FlatStep.FlatStep}
+use Rattle.filterset_expression.specs.Expression as compiled
 use Rattle.filterset_expression.specs.declared.flat.steps.FlatStep.TheVariants as step
 
 pub one_less-is : (n : ℕ) → one_less n ≡ n - 1

@@ -1,9 +1,7 @@
 -- What leaves say of a test, and what the test's binary and its group tell of it.
 use Rattle.std.proofs.Common.{◌↔◌, ◌≡◌, ◌∙◌, sym, Bool, true, false, refl, Some}
-use Rattle.std.specs.Bool.{IsTrue}
-use Rattle.std.specs.List.{list_any}
-use Rattle.std.proofs.lemmas.Bool.{or_parts}
-use Rattle.std.proofs.lemmas.List.Folds.{list_any-append}
+use Rattle.std.specs.{Bool.IsTrue, List.list_any}
+use Rattle.std.proofs.lemmas.{Bool.or_parts, List.Folds.list_any-append}
 use Rattle.filterset_faults.specs.declared.span.SourceSpan.{SourceSpan}
 use Rattle.filterset_matchers.specs.declared.matcher.NameMatcher.{NameMatcher}
 use Rattle.filterset_expression.specs.Expression as compiled
@@ -12,12 +10,10 @@ use Rattle.filterset_expression.specs.Connectives.{Decides, kleene, kleene_not}
 use Rattle.filterset_expression.specs.Folds.{Folds, Settles}
 use Rattle.filterset_expression.specs.Formula.{Formula, Leaf, Negation, Compound, leaves, TrueWhere}
 use Rattle.filterset_expression.specs.declared.expression.CompiledExpr.{CompiledExpr}
-use Rattle.filterset_expression.specs.declared.leaves.FiltersetLeaf.{FiltersetLeaf}
-use Rattle.filterset_expression.specs.declared.leaves.FiltersetLeaf.TheVariants as leaf
-use Rattle.filterset_expression.specs.declared.query.TestQuery.{TestQuery}
-use Rattle.filterset_expression.proofs.Connectives.{connects_alike}
-use Rattle.filterset_expression.proofs.Exact.{definite_answer, fold_knows}
+use Rattle.filterset_expression.specs.declared.{leaves.FiltersetLeaf.FiltersetLeaf, query.TestQuery.TestQuery}
+use Rattle.filterset_expression.proofs.{Connectives.connects_alike, Exact.definite_answer, Exact.fold_knows}
 use Rattle.filterset_expression.proofs.Meanings.{alike}
+use Rattle.filterset_expression.specs.declared.leaves.FiltersetLeaf.TheVariants as leaf
 
 -- what the arm for the other leaves knows
 pub no_group : (l : FiltersetLeaf) → ((matcher : NameMatcher) (span : SourceSpan) → l ≡ leaf.Group matcher span → ⊥) → is_group (compiled_leaf l) ≡ false

@@ -6,16 +6,15 @@ use Rattle.filterset_graph.specs.declared.package.PackageMetadata.{PackageMetada
 use Rattle.filterset_expression.specs.Expression as compiled
 use Rattle.filterset_expression.specs.Expression.{CompiledLeaf, formula, leaf_with_default, with_default, has_leaf, Lookup, HoldsOfTest, Holds}
 use Rattle.filterset_expression.specs.Formula.{leaves, TrueWhere}
+use Rattle.filterset_expression.specs.Meaning.{tree_formula, has_tree_leaf, MeansOfTest, Meaning, SaysTheSame, IsCompiledLeaf, IsCompiled}
+use Rattle.filterset_expression.specs.declared.{expression.CompiledExpr.CompiledExpr, query.TestQuery.TestQuery}
+use Rattle.filterset_expression.proofs.Connectives.{leaves-joined}
+use Rattle.filterset_expression.proofs.Shapes.{same_truth, same_test, truth-replaced}
 use Rattle.filterset_matchers.specs.Matcher.{MatchesName}
 use Rattle.filterset_expression.specs.Meaning as meaning
-use Rattle.filterset_expression.specs.Meaning.{tree_formula, has_tree_leaf, MeansOfTest, Meaning, SaysTheSame, IsCompiledLeaf, IsCompiled}
 use Rattle.filterset_grammar.specs.Tree as tree
 use Rattle.filterset_grammar.specs.Tree.{Leaf, Tree, Matching, Platform, Default, Not, Union, Join, Parens, Set, tree_leaves}
 use Rattle.filterset_grammar.specs.declared.predicate.Predicate.TheVariants.{Package, Deps, Rdeps, Kind, Binary, BinaryId, Test, Group}
-use Rattle.filterset_expression.specs.declared.expression.CompiledExpr.{CompiledExpr}
-use Rattle.filterset_expression.specs.declared.query.TestQuery.{TestQuery}
-use Rattle.filterset_expression.proofs.Connectives.{leaves-joined}
-use Rattle.filterset_expression.proofs.Shapes.{same_truth, same_test, truth-replaced}
 
 pub alike : (P : Type 0) → P ↔ P
 alike P = (λ p. p, λ p. p)

@@ -3,19 +3,17 @@ use Rattle.std.proofs.Common.{◌≡◌, ◌+◌, ◌-◌, ◌<◌, ◌≤◌, g
 use Rattle.std.specs.Prelude.{IfSome}
 use Rattle.std.proofs.lemmas.List.{append-nil, reverse-append, length-reverse, take-append-drop}
 use Rattle.std.proofs.Math.Seq.{take-append_seam, drop-append_seam}
-use Rattle.filterset_expression.specs.Connectives.{Connective}
 use Rattle.std.proofs.lemmas.Bool.{and_from, and_parts}
-use Rattle.filterset_expression.specs.EqualityLaws.{connective_is, connective_self}
-use Rattle.filterset_expression.specs.FlatSteps.{Step, Push, Negate, Combine, postfix}
-use Rattle.filterset_expression.specs.Expression as compiled
+use Rattle.filterset_expression.proofs.FlatSteps.{postfix_runs}
+use Rattle.filterset_expression.specs.{Connectives.Connective, EqualityLaws.connective_is, EqualityLaws.connective_self}
 use Rattle.filterset_expression.specs.Expression.{CompiledLeaf, leaf_with_default}
+use Rattle.filterset_expression.specs.FlatSteps.{Step, Push, Negate, Combine, postfix}
 use Rattle.filterset_expression.specs.Formula.{Formula, Leaf, Negation, Compound, replaced}
 use Rattle.filterset_expression.specs.Passing.{Advances, IsRightOperand, IsPassedOver, ArePassedOver, begins_with, is_right_operand, is_passed_over, are_passed_over}
-use Rattle.filterset_expression.specs.Running.{leaves_one}
-use Rattle.filterset_expression.proofs.FlatSteps.{postfix_runs}
+use Rattle.filterset_expression.specs.{Running.leaves_one, declared.flat.passing.RightOperand.RightOperand}
+use Rattle.filterset_expression.specs.Expression as compiled
 use Rattle.filterset_expression.specs.declared.expression.CompiledExpr.TheBlock as variant
 use Rattle.filterset_expression.specs.declared.leaves.FiltersetLeaf.TheVariants as leaf
-use Rattle.filterset_expression.specs.declared.flat.passing.RightOperand.{RightOperand}
 
 -- steps may follow those that a right operand is among
 pub passed_more : {A : Type 0} (operand : Option RightOperand) (steps rest : List (Step A)) → IsPassedOver operand steps → IsPassedOver operand (steps ++ rest)

@@ -1,7 +1,6 @@
 -- Formulas of one shape, with leaves that agree, are true alike.
 use Rattle.std.proofs.Common.{◌≡◌, ◌↔◌, [], Bool, ap, refl}
-use Rattle.std.specs.Prelude.{◌||◌}
-use Rattle.std.specs.List.{list_any}
+use Rattle.std.specs.{Prelude.◌||◌, List.list_any}
 use Rattle.std.proofs.lemmas.List.Folds.{list_any-append}
 use Rattle.filterset_expression.specs.Connectives.{Connects}
 use Rattle.filterset_expression.specs.Formula.{Formula, Leaf, Negation, Compound, leaves, replaced, TrueWhere, SameShape}

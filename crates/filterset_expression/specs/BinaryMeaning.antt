@@ -5,12 +5,10 @@ use Rattle.filterset_graph.specs.declared.package.PackageMetadata.{PackageMetada
 use Rattle.filterset_grammar.specs.Tree.{Leaf, Tree, Matching, Default}
 use Rattle.filterset_grammar.specs.declared.predicate.Predicate.TheVariants.{Test, Group}
 use Rattle.filterset_expression.specs.Expression.{CompiledLeaf, formula, is_of_test, with_default, HoldsOfBinary}
-use Rattle.filterset_expression.specs.Formula as formulas
-use Rattle.filterset_expression.specs.Formula.{Formula, replaced}
-use Rattle.filterset_expression.specs.Meaning.{tree_formula, MeansOfBinary}
+use Rattle.filterset_expression.specs.{Formula.Formula, Formula.replaced, Meaning.tree_formula, Meaning.MeansOfBinary}
 use Rattle.filterset_expression.specs.Values.{occurrences, TrueUnder, CanBe}
-use Rattle.filterset_expression.specs.declared.expression.CompiledExpr.{CompiledExpr}
-use Rattle.filterset_expression.specs.declared.query.BinaryQuery.{BinaryQuery}
+use Rattle.filterset_expression.specs.declared.{expression.CompiledExpr.CompiledExpr, query.BinaryQuery.BinaryQuery}
+use Rattle.filterset_expression.specs.Formula as formulas
 
 -- ---- a tree with the default filter put in
 --

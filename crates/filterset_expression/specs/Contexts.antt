@@ -1,6 +1,5 @@
 -- The contexts of evaluations.
-use Rattle.filterset_expression.specs.declared.expression.CompiledExpr.{CompiledExpr}
-use Rattle.filterset_expression.specs.declared.context.EvalContext.{EvalContext}
+use Rattle.filterset_expression.specs.declared.{expression.CompiledExpr.CompiledExpr, context.EvalContext.EvalContext}
 
 -- the default filter
 abbrev pub default_of : EvalContext → CompiledExpr

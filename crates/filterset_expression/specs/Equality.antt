@@ -1,15 +1,13 @@
 -- When compiled expressions are equal: in all that they hold, their spans too. Matchers are equal as `same_compared`
 -- says, and so of globs the tokens alone are compared.
 use Rattle.std.specs.Prelude.{◌&&◌, Bool, true, false}
-use Rattle.std.specs.Cmp.Lexicographic.{pointwise}
-use Rattle.std.specs.Str.{bytes_eq}
+use Rattle.std.specs.{Cmp.Lexicographic.pointwise, Str.bytes_eq}
 use Rattle.filterset_grammar.specs.Equality.{compared_matcher, same_platform, same_span}
 use Rattle.filterset_matchers.specs.Equality.{compared, same_compared}
 use Rattle.filterset_expression.specs.Connectives.{same_connective}
 use Rattle.filterset_expression.specs.Expression.{CompiledLeaf, Packages, Kind, Platform, Binary, BinaryId, Test, Group, Default, All, None}
 use Rattle.filterset_expression.specs.Formula.{Formula, Leaf, Negation, Compound}
-use Rattle.filterset_expression.specs.declared.query.BinaryQuery.{BinaryQuery}
-use Rattle.filterset_expression.specs.declared.query.TestQuery.{TestQuery}
+use Rattle.filterset_expression.specs.declared.query.{BinaryQuery.BinaryQuery, TestQuery.TestQuery}
 
 -- whether leaves are equal; of packages the same ids are in both
 abbrev pub same_compiled_leaf : CompiledLeaf → CompiledLeaf → Bool

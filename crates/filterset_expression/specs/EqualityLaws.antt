@@ -1,17 +1,12 @@
 -- Compiled expressions are equal exactly where the same is compared of them, and so their equality is an equivalence.
 use Rattle.std.specs.Prelude.{◌≡◌, ◌&&◌, Bool, true, refl}
-use Rattle.std.specs.Bool.{Decides, one_answer}
-use Rattle.std.specs.Cmp.{IsEquivalence}
-use Rattle.std.specs.Cmp.Lexicographic.{pointwise_decides}
+use Rattle.std.specs.{Bool.Decides, Bool.one_answer, Cmp.IsEquivalence, Cmp.Lexicographic.pointwise_decides}
 use Rattle.std.proofs.Common.{arith, ap, sym, subst, ◌∙◌}
-use Rattle.std.proofs.lemmas.Bool.{and_parts, false≢true}
-use Rattle.std.proofs.lemmas.Slice.Eq.{bytes_eq-Decides}
-use Rattle.std.proofs.lemmas.Bool.Decides.{nat_tests}
+use Rattle.std.proofs.lemmas.{Bool.and_parts, Bool.false≢true, Slice.Eq.bytes_eq-Decides, Bool.Decides.nat_tests}
 use Rattle.filterset_faults.specs.declared.span.SourceSpan.{SourceSpan}
 use Rattle.filterset_grammar.specs.Equality.{compared_matcher, same_platform, same_span}
 use Rattle.filterset_grammar.specs.EqualityLaws.{alike, alike_Decides, alike_equiv, kept_matcher, same_platform_Decides, same_span_Decides}
-use Rattle.filterset_matchers.specs.Equality.{same_compared}
-use Rattle.filterset_matchers.specs.Matcher.{Matcher}
+use Rattle.filterset_matchers.specs.{Equality.same_compared, Matcher.Matcher}
 use Rattle.filterset_expression.specs.Connectives.{Connective, same_connective}
 use Rattle.filterset_expression.specs.Equality.{same_compiled_leaf, same_formula, compared_compiled, compared_formula}
 use Rattle.filterset_expression.specs.Expression.{CompiledLeaf, Packages, Kind, Platform, Binary, BinaryId, Test, Group, Default, All, None}

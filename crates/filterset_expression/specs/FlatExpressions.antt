@@ -6,11 +6,9 @@ use Rattle.filterset_graph.specs.declared.package.PackageMetadata.{PackageMetada
 use Rattle.filterset_grammar.specs.Tree.{Tree}
 use Rattle.filterset_expression.specs.Connectives.{Decides, kleene, kleene_not}
 use Rattle.filterset_expression.specs.Expression.{CompiledLeaf, is_of_test, with_default, HoldsOfBinary}
-use Rattle.filterset_expression.specs.Folds.{Folds, Settles}
-use Rattle.filterset_expression.specs.Meaning.{IsCompiled}
+use Rattle.filterset_expression.specs.{Folds.Folds, Folds.Settles, Meaning.IsCompiled}
 use Rattle.filterset_expression.specs.FlatSteps.{Step, Push, step_of, steps_of, postfix}
-use Rattle.filterset_expression.specs.declared.expression.CompiledExpr.{CompiledExpr}
-use Rattle.filterset_expression.specs.declared.flat.FlatExpr.{FlatExpr}
+use Rattle.filterset_expression.specs.declared.{expression.CompiledExpr.CompiledExpr, flat.FlatExpr.FlatExpr}
 use Rattle.filterset_expression.specs.declared.query.BinaryQuery.{BinaryQuery}
 
 abbrev pub flat_steps : FlatExpr → List (Step CompiledLeaf)

@@ -1,7 +1,6 @@
 -- The connectives of two values and those of three keep the laws of a logic.
 use Rattle.std.specs.Prelude.{true, false, not, Some, refl}
-use Rattle.std.proofs.Common.{arith}
-use Rattle.std.proofs.lemmas.Bool.Decides.{nat_tests}
+use Rattle.std.proofs.{Common.arith, lemmas.Bool.Decides.nat_tests}
 use Rattle.filterset_expression.specs.Connectives.{connected, kleene, kleene_not}
 use Rattle.filterset_expression.specs.Logics.{IsLogic, IsExclusiveOr}
 

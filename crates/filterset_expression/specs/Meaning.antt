@@ -2,21 +2,19 @@
 use Rattle.std.specs.Prelude.{◌≡◌, ◌↔◌, ℕ, Bool, true, false, List, Contains, IsTrue, string_bytes}
 use Rattle.std.specs.List.{list_any}
 use Rattle.filterset_faults.specs.declared.span.SourceSpan.{SourceSpan}
-use Rattle.filterset_graph.specs.Packages.{Path}
-use Rattle.filterset_graph.specs.declared.package.PackageMetadata.{PackageMetadata}
+use Rattle.filterset_graph.specs.{Packages.Path, declared.package.PackageMetadata.PackageMetadata}
 use Rattle.filterset_expression.specs.Connectives.{Conjunction, Disjunction, ExclusiveDisjunction}
-use Rattle.filterset_expression.specs.Expression as compiled
 use Rattle.filterset_expression.specs.Expression.{CompiledLeaf, Lookup, Holds, HoldsOfTest, formula}
-use Rattle.filterset_expression.specs.Formula as formulas
 use Rattle.filterset_expression.specs.Formula.{Formula, Negation, Compound, TrueWhere, SameShape}
+use Rattle.filterset_expression.specs.declared.expression.CompiledExpr.{CompiledExpr}
+use Rattle.filterset_expression.specs.declared.query.{BinaryQuery.BinaryQuery, TestQuery.TestQuery}
+use Rattle.filterset_expression.specs.Expression as compiled
+use Rattle.filterset_expression.specs.Formula as formulas
 use Rattle.filterset_matchers.specs.Matcher.{Matcher, MatchesName}
 use Rattle.filterset_grammar.specs.Tree.{Leaf, Tree, Matching, Platform, Default, All, None, Not, Union, Join, Parens, Set, tree_leaves}
 use Rattle.filterset_grammar.specs.declared.predicate.Predicate.TheVariants.{Package, Deps, Rdeps, Kind, Binary, BinaryId, Test, Group}
 use Rattle.filterset_grammar.specs.declared.operators.Joiner.{Joiner}
 use Rattle.filterset_grammar.specs.declared.operators.Joiner.TheVariants.{Both, Without, ExactlyOne}
-use Rattle.filterset_expression.specs.declared.expression.CompiledExpr.{CompiledExpr}
-use Rattle.filterset_expression.specs.declared.query.BinaryQuery.{BinaryQuery}
-use Rattle.filterset_expression.specs.declared.query.TestQuery.{TestQuery}
 
 -- what an operator of the level of `and` makes of two formulas: `a - b` is a and not b
 abbrev pub joined : {A : Type 0} → Joiner → Formula A → Formula A → Formula A

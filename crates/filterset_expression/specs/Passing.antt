@@ -1,10 +1,8 @@
 -- Right operands that are skipped because the left operand decides.
 use Rattle.std.specs.Prelude.{◌≡◌, ◌⊎◌, ◌+◌, ◌-◌, ◌&&◌, ℕ, Bool, true, false, List, [], ◌∷◌, ◌++◌, Option, Some, None, length, take, drop}
 use Rattle.filterset_expression.specs.Connectives.{Connective, same_connective}
-use Rattle.filterset_expression.specs.FlatSteps.{Step, Combine, postfix}
-use Rattle.filterset_expression.specs.Formula.{Formula}
-use Rattle.filterset_expression.specs.Running.{leaves_one}
-use Rattle.filterset_expression.specs.declared.flat.passing.RightOperand.{RightOperand}
+use Rattle.filterset_expression.specs.{FlatSteps.Step, FlatSteps.Combine, FlatSteps.postfix, Formula.Formula}
+use Rattle.filterset_expression.specs.{Running.leaves_one, declared.flat.passing.RightOperand.RightOperand}
 
 -- The steps begin with those of a right operand and its connective, as many as are counted.
 abbrev pub IsRightOperand : {A : Type 0} → Connective → ℕ → List (Step A) → Type 0

@@ -1,7 +1,6 @@
 //! Compiled expressions and their evaluation.
 ghost use Rattle.std.specs.Prelude.{◌≡◌, ◌↔◌, Bool, false, Some, None, IfOk, IsTrue};
-ghost use Rattle.filterset_expression.specs.Expression.{formula, has_leaf, is_default, is_group, no_groups};
-ghost use Rattle.filterset_expression.specs.Expression.{Holds, IsDefinite, IsUndecided};
+ghost use Rattle.filterset_expression.specs.Expression.{formula, has_leaf, is_default, is_group, no_groups, Holds, IsDefinite, IsUndecided};
 
 use crate::nodes::copy_expr;
 use crate::{BinaryQuery, EvalContext, FiltersetLeaf, FlatExpr, GroupLookup, TestQuery};

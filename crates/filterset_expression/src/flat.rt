@@ -1,19 +1,14 @@
 //! Compiled expressions as lists of steps, and their evaluation.
-ghost use Rattle.std.specs.Prelude.{◌≡◌, ◌↔◌, ◌∷◌, [], ◌+◌, Bool, true, false, List, Ok, Some, None, IfOk, IfSome, IsTrue};
-ghost use Rattle.std.specs.Prelude.{◌≤◌, ◌<◌, drop, length};
+ghost use Rattle.std.specs.Prelude.{◌≡◌, ◌↔◌, ◌∷◌, [], ◌+◌, Bool, true, false, List, Ok, Some, None, IfOk, IfSome, IsTrue, ◌≤◌, ◌<◌, drop, length};
 ghost use Rattle.filterset_faults.specs.declared.span.SourceSpan.{SourceSpan};
 ghost use Rattle.filterset_graph.specs.declared.package.PackageMetadata.{PackageMetadata};
 ghost use Rattle.filterset_grammar.specs.Tree.{Tree};
 ghost use Rattle.filterset_expression.specs.BinaryMeaning.{IsDefiniteTree, IsUndecidedTree};
 ghost use Rattle.filterset_expression.specs.Connectives.{Decides};
-ghost use Rattle.filterset_expression.specs.Expression.{compiled_leaf, is_default, is_group, no_groups, CompiledLeaf, HoldsOfTest};
-ghost use Rattle.filterset_expression.specs.Expression.{Holds, IsDefinite, IsUndecided};
-ghost use Rattle.filterset_expression.specs.Meaning.{Meaning};
-ghost use Rattle.filterset_expression.specs.Running.{leaves_one, greatest_height};
+ghost use Rattle.filterset_expression.specs.Expression.{compiled_leaf, is_default, is_group, no_groups, CompiledLeaf, HoldsOfTest, Holds, IsDefinite, IsUndecided};
+ghost use Rattle.filterset_expression.specs.{Meaning.Meaning, Running.leaves_one, Running.greatest_height};
 ghost use Rattle.filterset_expression.specs.FlatSteps.{postfix, steps_of, Push};
-ghost use Rattle.filterset_expression.specs.Folds.{Folds};
-ghost use Rattle.filterset_expression.specs.Formula.{Formula};
-ghost use Rattle.filterset_expression.specs.Passing.{are_passed_over, Advances};
+ghost use Rattle.filterset_expression.specs.{Folds.Folds, Formula.Formula, Passing.are_passed_over, Passing.Advances};
 ghost use Rattle.filterset_expression.specs.declared.expression.CompiledExpr.{CompiledExpr};
 ghost use Rattle.filterset_expression.specs.declared.flat.asked.AskedLeaf.{AskedLeaf};
 

@@ -7,16 +7,13 @@ ghost use Rattle.filterset_grammar.specs.Tree.{Tree, Join, Not, Parens, Union};
 ghost use Rattle.filterset_grammar.specs.declared.operators.AndOperator.{AndOperator};
 ghost use Rattle.filterset_grammar.specs.declared.operators.DifferenceOperator.{DifferenceOperator};
 ghost use Rattle.filterset_grammar.specs.declared.operators.Joiner.TheVariants.{Both, Without, ExactlyOne};
-ghost use Rattle.filterset_grammar.specs.declared.operators.NotOperator.{NotOperator};
-ghost use Rattle.filterset_grammar.specs.declared.operators.OrOperator.{OrOperator};
+ghost use Rattle.filterset_grammar.specs.declared.operators.{NotOperator.NotOperator, OrOperator.OrOperator};
 ghost use Rattle.filterset_grammar.specs.declared.operators.SymmetricDifferenceOperator.{SymmetricDifferenceOperator};
 ghost use Rattle.filterset_matchers.specs.Matcher.{Matcher};
 ghost use Rattle.filterset_expression.specs.BinaryMeaning.{is_either_of_test, EitherOfBinary, tree_with_default, IsDefiniteTree, PossibleOfTree};
 ghost use Rattle.filterset_expression.specs.Meaning.{tree_formula, IsCompiled, Meaning};
-ghost use Rattle.filterset_expression.specs.Values.{TrueUnder};
-ghost use Rattle.filterset_expression.specs.declared.expression.CompiledExpr.{CompiledExpr};
-ghost use Rattle.filterset_expression.specs.declared.query.BinaryQuery.{BinaryQuery};
-ghost use Rattle.filterset_expression.specs.declared.query.TestQuery.{TestQuery};
+ghost use Rattle.filterset_expression.specs.{Values.TrueUnder, declared.expression.CompiledExpr.CompiledExpr};
+ghost use Rattle.filterset_expression.specs.declared.query.{BinaryQuery.BinaryQuery, TestQuery.TestQuery};
 
 use crate::GroupLookup;
 

@@ -1,10 +1,8 @@
 //! Connectives, and logics of two truth values or of three.
 ghost use Rattle.std.specs.Prelude.{◌≡◌, true, false, not, Some};
-ghost use Rattle.filterset_expression.specs.Connectives.{Conjunction, Disjunction, ExclusiveDisjunction};
-ghost use Rattle.filterset_expression.specs.Connectives.{connected, kleene, kleene_not};
+ghost use Rattle.filterset_expression.specs.Connectives.{Conjunction, Disjunction, ExclusiveDisjunction, connected, kleene, kleene_not};
 ghost use Rattle.filterset_expression.specs.Logics.{IsLogic, IsExclusiveOr};
-ghost use Rattle.filterset_expression.specs.LogicLaws.{bool_is_logic, kleene_is_logic};
-ghost use Rattle.filterset_expression.specs.LogicLaws.{bool_has_exclusive_or, kleene_has_exclusive_or};
+ghost use Rattle.filterset_expression.specs.LogicLaws.{bool_is_logic, kleene_is_logic, bool_has_exclusive_or, kleene_has_exclusive_or};
 ghost use Rattle.filterset_expression.specs.declared.logic.Connective.{Connective};
 
 /// A binary operator on sets of tests or on truth values.

@@ -3,15 +3,13 @@ use Rattle.std.specs.Prelude.{ℕ, ◌&&◌, Bool, true, false, List, Option, So
 use Rattle.std.specs.Str.{bytes_eq}
 use Rattle.filterset_glob.specs.declared.fault.GlobConstructError.{GlobConstructError}
 use Rattle.filterset_glob.specs.contracts.fault.GlobConstructErrorPartialEq.TheImpl as glob_faults
-use Rattle.filterset_faults.specs.declared.span.SourceSpan.{SourceSpan}
-use Rattle.filterset_faults.specs.contracts.span.SourceSpanPartialEq.TheImpl as spans
-use Rattle.filterset_faults.specs.declared.kind.FiltersetKind.{FiltersetKind}
-use Rattle.filterset_faults.specs.contracts.kind.FiltersetKindPartialEq.TheImpl as kinds
+use Rattle.filterset_faults.specs.declared.{span.SourceSpan.SourceSpan, kind.FiltersetKind.FiltersetKind}
 use Rattle.filterset_faults.specs.declared.kind.BannedPredicateReason.{BannedPredicateReason}
+use Rattle.filterset_faults.specs.{declared.error.ParseSingleError.ParseSingleError, Faults.code_of, Faults.span_of}
+use Rattle.filterset_faults.specs.contracts.span.SourceSpanPartialEq.TheImpl as spans
+use Rattle.filterset_faults.specs.contracts.kind.FiltersetKindPartialEq.TheImpl as kinds
 use Rattle.filterset_faults.specs.contracts.kind.BannedPredicateReasonPartialEq.TheImpl as reasons
-use Rattle.filterset_faults.specs.declared.error.ParseSingleError.{ParseSingleError}
 use Rattle.filterset_faults.specs.declared.error.ParseSingleError.TheVariants as fault
-use Rattle.filterset_faults.specs.Faults.{code_of, span_of}
 
 -- `==` of the parts of a fault is derived, and compares their fields.
 abbrev pub same_span : SourceSpan → SourceSpan → Bool

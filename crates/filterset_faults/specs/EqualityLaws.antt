@@ -1,21 +1,18 @@
 -- The equality test of faults is true exactly of equal faults. Only proofs cite this file.
 use Rattle.std.specs.Prelude.{◌≡◌, ℕ, ◌==◌, ◌&&◌, true, List, Option, Some, None, refl}
-use Rattle.std.specs.Bool.{Decides}
-use Rattle.std.specs.Str.{bytes_eq}
-use Rattle.std.specs.Cmp.{IsEquivalence, decided, on_equiv}
+use Rattle.std.specs.{Bool.Decides, Str.bytes_eq, Cmp.IsEquivalence, Cmp.decided, Cmp.on_equiv}
 use Rattle.std.proofs.Common.{ap, subst}
 use Rattle.std.proofs.lemmas.Bool.{and_parts, and_from, eqb-true, eq-eqb, false≢true}
 use Rattle.std.proofs.lemmas.Slice.Eq.{bytes_eq-Decides}
 use Rattle.filterset_glob.specs.declared.fault.GlobConstructError.{GlobConstructError}
 use Rattle.filterset_glob.specs.declared.fault.GlobConstructError.TheVariants.{UnclosedClass, InvalidRange, UnopenedAlternates, UnclosedAlternates}
-use Rattle.filterset_faults.specs.declared.span.SourceSpan.{SourceSpan}
-use Rattle.filterset_faults.specs.declared.kind.FiltersetKind.{FiltersetKind}
+use Rattle.filterset_faults.specs.declared.{span.SourceSpan.SourceSpan, kind.FiltersetKind.FiltersetKind}
 use Rattle.filterset_faults.specs.declared.kind.FiltersetKind.TheVariants.{Test, TestArchive, OverrideFilter, DefaultFilter}
 use Rattle.filterset_faults.specs.declared.kind.BannedPredicateReason.{BannedPredicateReason}
 use Rattle.filterset_faults.specs.declared.kind.BannedPredicateReason.TheVariants.{DefaultInfiniteRecursion, GroupCircularDependency, GroupNotAvailableInDefaultFilter, GroupNotAvailableInArchive, TestNotAvailableInArchive}
 use Rattle.filterset_faults.specs.declared.error.Details.{Details}
-use Rattle.filterset_faults.specs.declared.error.Details.TheVariants as details
 use Rattle.filterset_faults.specs.Equality.{same_span, same_glob_fault, same_kind, same_reason, Held, nothing, glob_fault, ban, operators, Seen, seen, same_optional_span, same_held, same_seen, same_fault}
+use Rattle.filterset_faults.specs.declared.error.Details.TheVariants as details
 
 span_is : (a b : SourceSpan) → same_span a b ≡ true → a ≡ b
 span_is a b e =

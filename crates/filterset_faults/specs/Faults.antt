@@ -2,8 +2,7 @@
 use Rattle.std.specs.Prelude.{List, ℕ, codes, ◌++◌, Option, Some, None}
 use Rattle.filterset_glob.specs.FaultTexts.{glob_fault_text}
 use Rattle.filterset_faults.specs.Texts.{kind_text, reason_text}
-use Rattle.filterset_faults.specs.declared.span.SourceSpan.{SourceSpan}
-use Rattle.filterset_faults.specs.declared.error.ParseSingleError.{ParseSingleError}
+use Rattle.filterset_faults.specs.declared.{span.SourceSpan.SourceSpan, error.ParseSingleError.ParseSingleError}
 use Rattle.filterset_faults.specs.declared.error.ParseSingleError.TheVariants as fault
 
 abbrev pub code_of : ParseSingleError → List ℕ

@@ -1,11 +1,9 @@
 -- The exact texts of labels and help.
 use Rattle.std.specs.Prelude.{List, ℕ, codes, ◌++◌}
 use Rattle.filterset_glob.specs.FaultTexts.{glob_fault_text}
-use Rattle.filterset_faults.specs.Texts.{reason_text}
-use Rattle.filterset_faults.specs.declared.text.Label.{Label}
+use Rattle.filterset_faults.specs.{Texts.reason_text, declared.text.Label.Label}
 use Rattle.filterset_faults.specs.declared.text.Label.TheVariants.{Text, Glob, Reason, BinaryOp, UnaryOp}
-use Rattle.filterset_faults.specs.declared.text.Help.{Help}
-use Rattle.filterset_faults.specs.declared.text.Help.TheVariants.{Infix, Prefix}
+use Rattle.filterset_faults.specs.declared.text.Help.{Help, TheVariants.Infix, TheVariants.Prefix}
 
 abbrev pub label_text : Label → List ℕ
 label_text (Text text) = text.now

@@ -1,7 +1,6 @@
 //! Faults of filterset texts: one fault, its code, span, label and help.
 ghost use Rattle.std.specs.Prelude.{◌≡◌, Ok, Some, None, option_map};
-ghost use Rattle.filterset_faults.specs.Equality.{held_of};
-ghost use Rattle.filterset_faults.specs.EqualityLaws.{held_as};
+ghost use Rattle.filterset_faults.specs.{Equality.held_of, EqualityLaws.held_as};
 ghost use Rattle.filterset_faults.specs.Faults.{code_of, span_of, label_of, help_of};
 ghost use Rattle.filterset_faults.specs.Label.{label_text, help_text};
 
@@ -155,8 +154,7 @@ impl Error for ParseSingleError {}
 /// Compares the variants, by their codes, and all fields.
 impl PartialEq for ParseSingleError {
     ghost use Rattle.std.specs.Cmp.{partial_equiv_from_equiv};
-    ghost use Rattle.filterset_faults.specs.Equality.{same_fault};
-    ghost use Rattle.filterset_faults.specs.EqualityLaws.{same_fault_equiv};
+    ghost use Rattle.filterset_faults.specs.{Equality.same_fault, EqualityLaws.same_fault_equiv};
 
     ghost eq = { same_fault };
 

@@ -1,11 +1,10 @@
 -- How a text ends that tokens match: in their last literal.
 use Rattle.std.proofs.Common.{◌≡◌, ℕ, ◌<◌, List, [], ◌∷◌, ◌++◌, sym, ap, subst, ◌∙◌, append_assoc, append-nil, IsUtf8}
 use Rattle.std.specs.Str.{chars}
-use lib.Utf8.{encodes, encode}
 use Rattle.std.proofs.lemmas.Str.{encodes-append, encodes-chars, encode_ascii}
+use lib.Utf8.{encodes, encode}
 use Rattle.filterset_glob.specs.declared.token.GlobToken.{GlobToken, Literal}
-use Rattle.filterset_glob.specs.Grammar.{◌⊕◌}
-use Rattle.filterset_glob.specs.Matching.{Matches}
+use Rattle.filterset_glob.specs.{Grammar.◌⊕◌, Matching.Matches}
 use Rattle.filterset_glob.specs.Tokens.{Tokens, no_token, next_token, literal, tokens_of}
 use Rattle.filterset_glob.proofs.Opened.{tokens_of-append}
 

@@ -1,15 +1,13 @@
 -- Sets of positions as words.
 use Rattle.std.proofs.Common.{◌≡◌, ◌↔◌, ◌≢◌, ℕ, zero, suc, ◌+◌, ◌-◌, ◌*◌, ◌/◌, ◌%◌, ◌<◌, ◌⊎◌, inl, inr, List, [], ◌∷◌, Bool, true, false, length, get_or, replicate, eqb, ap, sym, subst, ◌∙◌, arith, refl, eqb-true, eq-eqb, ⊎_elim, max, bit_or}
-use Rattle.std.proofs.Math.ListN.{set}
-use Rattle.std.specs.Int.{bit_at}
-use Rattle.std.proofs.lemmas.Bool.{cases_lt, cases_eq}
+use Rattle.std.proofs.{Math.ListN.set, lemmas.Bool.cases_lt, lemmas.Bool.cases_eq}
 use Rattle.std.proofs.lemmas.List.{get_or-set_same, get_or-set_other, get_or_past}
 use Rattle.std.proofs.lemmas.List.FromFn.{length-map-range_with_len, get_or-map-range_with_len, fill_by_all}
 use Rattle.std.proofs.lemmas.Nat.Bits.{bit_at-zero, bit_at-lt, bit_at_or, bit_at-pow_same, bit_at-pow_other}
 use Rattle.std.proofs.lemmas.Simd.{length-replicate}
+use Rattle.std.specs.Int.{bit_at}
 pub use Rattle.std.proofs.lemmas.List.{nil_from_length as no_words}
-use Rattle.filterset_glob.specs.Positions.{Holds}
-use Rattle.filterset_glob.specs.Words.{Has, positions_of}
+use Rattle.filterset_glob.specs.{Positions.Holds, Words.Has, Words.positions_of}
 
 -- ---- the words
 

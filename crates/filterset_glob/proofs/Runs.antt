@@ -1,13 +1,10 @@
 -- Runs of tokens: what the first of them match, and then the rest.
 use Rattle.std.proofs.Common.{◌≡◌, ℕ, zero, suc, ◌+◌, ◌*◌, ◌<◌, ◌≤◌, Bool, true, List, [], ◌∷◌, ◌++◌, length, slice_index, get_or, take, drop, refl, sym, ap, subst, ◌∙◌, append_assoc, arith, length-append, length-take}
 use Rattle.std.proofs.lemmas.List.{take-append-drop, take-append-le, take_all, drop-take}
-use Rattle.filterset_glob.specs.declared.token.GlobToken.{GlobToken}
-use Rattle.filterset_glob.specs.Positions.{Holds, Moves}
-use Rattle.filterset_glob.specs.Grammar.{◌⊕◌}
+use Rattle.filterset_glob.specs.{declared.token.GlobToken.GlobToken, Positions.Holds, Positions.Moves, Grammar.◌⊕◌}
 use Rattle.filterset_glob.specs.Matching.{Admits, TakesOne, OneAdmitted, Matches, MatchesToken, node_count, token_node_count}
 use Rattle.filterset_glob.specs.Tokens.{Token, is_star, literal, any_char, star, class, alternates, deep_first, deep_mid, deep_last, Tokens, no_token, next_token, token_of, tokens_of}
-use Rattle.filterset_glob.proofs.Items.{take_item}
-use Rattle.filterset_glob.proofs.Opened.{tokens_of-append}
+use Rattle.filterset_glob.proofs.{Items.take_item, Opened.tokens_of-append}
 use Rattle.filterset_glob.proofs.Passing.{Then, moves_then, moves_done, moves_as, moves_over}
 
 pub one_matched : (token : Token) → TakesOne token → (t : List ℕ) → (MatchesToken token t → OneAdmitted token t) × (OneAdmitted token t → MatchesToken token t)

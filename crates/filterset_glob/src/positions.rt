@@ -3,8 +3,7 @@
 ghost use Rattle.std.specs.Prelude.{◌≡◌, ℕ, ◌+◌, ◌-◌, ◌*◌, ◌/◌, ◌^◌, ◌<◌, ◌≤◌, ◌↔◌, ◌⊎◌, ◌∷◌, false, true, List, [], Bool, length, take, replicate, slice_index, IfNone, IfOk, IfSome, IsOk, IsTrue};
 ghost use Rattle.filterset_glob.specs.Positions.{Holds, Moves};
 ghost use Rattle.filterset_glob.specs.Matching.{slash, Admits, Matches, TakesOne};
-ghost use Rattle.filterset_glob.specs.Tokens.{token_of, tokens_of};
-ghost use Rattle.filterset_glob.specs.Words.{positions_of};
+ghost use Rattle.filterset_glob.specs.{Tokens.token_of, Tokens.tokens_of, Words.positions_of};
 
 use crate::steps::Steps;
 use crate::text::Text;

@@ -2,8 +2,7 @@
 use Rattle.std.specs.Prelude.{All}
 use Rattle.filterset_grammar.specs.Tree.{Joiner, Tree, Not, Union, Join, Parens, Set, Leaf, tree_leaves}
 use Rattle.filterset_grammar.specs.Printing.{IsBasic, IsNoUnion, IsWellFormedLeaf}
-use Rattle.filterset_grammar.specs.declared.operators.NotOperator.{NotOperator}
-use Rattle.filterset_grammar.specs.declared.operators.OrOperator.{OrOperator}
+use Rattle.filterset_grammar.specs.declared.operators.{NotOperator.NotOperator, OrOperator.OrOperator}
 
 -- the tree stands as it is where it may, and else between one pair of parentheses
 pub data IsEnclosedUnless {S : Type 0} (may : Type 0) (e : Tree S) : Tree S → Type 0 where

@@ -1,19 +1,15 @@
 -- When trees are equal: all their parts are, spans included. Matchers are compared by `same_compared`, so globs only by
 -- their tokens.
 use Rattle.std.specs.Prelude.{◌==◌, ◌&&◌, Bool, true, false, []}
-use Rattle.filterset_faults.specs.Span.{offset_of, length_of}
-use Rattle.filterset_faults.specs.declared.span.SourceSpan.{SourceSpan}
-use Rattle.filterset_graph.specs.declared.package.BuildPlatform.{BuildPlatform}
-use Rattle.filterset_graph.specs.declared.package.BuildPlatform.TheVariants.{Target, Host}
-use Rattle.filterset_matchers.specs.Matcher.{Matcher, Glob}
-use Rattle.filterset_matchers.specs.Equality.{compared, same_compared}
+use Rattle.filterset_faults.specs.{Span.offset_of, Span.length_of, declared.span.SourceSpan.SourceSpan}
+use Rattle.filterset_graph.specs.declared.package.BuildPlatform.{BuildPlatform, TheVariants.Target, TheVariants.Host}
+use Rattle.filterset_matchers.specs.{Matcher.Matcher, Matcher.Glob, Equality.compared, Equality.same_compared}
 use Rattle.filterset_grammar.specs.Tree.{Predicate, Package, Deps, Rdeps, Kind, Binary, BinaryId, Test, Group, Leaf, Matching, Platform, Default, All, None, Joiner, Both, Without, ExactlyOne, Tree, Not, Union, Join, Parens, Set}
-use Rattle.filterset_grammar.specs.declared.operators.NotOperator.{NotOperator}
+use Rattle.filterset_grammar.specs.declared.operators.AndOperator.TheVariants.{LiteralAnd, Ampersand}
+use Rattle.filterset_grammar.specs.declared.operators.{DifferenceOperator.TheVariants.Minus, NotOperator.NotOperator}
 use Rattle.filterset_grammar.specs.declared.operators.NotOperator.TheVariants.{LiteralNot, Exclamation}
 use Rattle.filterset_grammar.specs.declared.operators.OrOperator.{OrOperator}
 use Rattle.filterset_grammar.specs.declared.operators.OrOperator.TheVariants.{LiteralOr, Pipe, Plus}
-use Rattle.filterset_grammar.specs.declared.operators.AndOperator.TheVariants.{LiteralAnd, Ampersand}
-use Rattle.filterset_grammar.specs.declared.operators.DifferenceOperator.TheVariants.{Minus}
 use Rattle.filterset_grammar.specs.declared.operators.SymmetricDifferenceOperator.TheVariants.{Caret}
 
 abbrev pub same_span : SourceSpan → SourceSpan → Bool

@@ -1,26 +1,22 @@
 -- The language: which texts spell which trees.
 -- Each piece of a text comes with the byte offset `at` of its first byte, which serves spans alone.
 use Rattle.std.specs.Prelude.{◌≡◌, ◌≢◌, ℕ, ◌+◌, List, [], ◌∷◌, ◌++◌, length, codes, Bool, true, false, IsTrue, chars}
-use Rattle.filterset_glob.specs.Signs.{sign}
+use Rattle.filterset_glob.specs.{Signs.sign, Grammar.GlobText, Tokens.Tokens}
 use Rattle.filterset_grammar.specs.Text.{Blanks, is_word_byte, ends_word, WhiteSpace, Spelled, Body}
-use Rattle.filterset_matchers.specs.Matcher.{Matcher, Equal, Contains, Glob, Regex}
 use Rattle.filterset_grammar.specs.Platforms.{Names}
-use Rattle.filterset_grammar.specs.Tree as tree
 use Rattle.filterset_grammar.specs.Tree.{Predicate, Leaf, Joiner, Tree, Package, Deps, Rdeps, Kind, Binary, BinaryId, Test, Group, Matching, Platform, Default, Both, Without, ExactlyOne, Not, Union, Join, Parens, Set}
-use Rattle.filterset_glob.specs.Grammar.{GlobText}
-use Rattle.filterset_glob.specs.Tokens.{Tokens}
-use Rattle.filterset_faults.specs.Span.{span}
-use Rattle.filterset_faults.specs.declared.span.SourceSpan.{SourceSpan}
-use Rattle.filterset_graph.specs.declared.package.BuildPlatform.{BuildPlatform}
-use Rattle.filterset_grammar.specs.declared.predicate.TextMatching.{TextMatching}
-use Rattle.filterset_grammar.specs.declared.predicate.TextMatching.TheVariants as ways
-use Rattle.filterset_grammar.specs.declared.operators.NotOperator.{NotOperator}
+use Rattle.filterset_grammar.specs.declared.{predicate.TextMatching.TextMatching, operators.NotOperator.NotOperator}
 use Rattle.filterset_grammar.specs.declared.operators.NotOperator.TheVariants.{LiteralNot, Exclamation}
 use Rattle.filterset_grammar.specs.declared.operators.OrOperator.{OrOperator}
 use Rattle.filterset_grammar.specs.declared.operators.OrOperator.TheVariants.{LiteralOr, Pipe, Plus}
 use Rattle.filterset_grammar.specs.declared.operators.AndOperator.TheVariants.{LiteralAnd, Ampersand}
 use Rattle.filterset_grammar.specs.declared.operators.DifferenceOperator.TheVariants.{Minus}
 use Rattle.filterset_grammar.specs.declared.operators.SymmetricDifferenceOperator.TheVariants.{Caret}
+use Rattle.filterset_matchers.specs.Matcher.{Matcher, Equal, Contains, Glob, Regex}
+use Rattle.filterset_grammar.specs.Tree as tree
+use Rattle.filterset_faults.specs.{Span.span, declared.span.SourceSpan.SourceSpan}
+use Rattle.filterset_graph.specs.declared.package.BuildPlatform.{BuildPlatform}
+use Rattle.filterset_grammar.specs.declared.predicate.TextMatching.TheVariants as ways
 
 -- the name of a predicate that takes a matcher
 abbrev pub Name : Predicate → List ℕ

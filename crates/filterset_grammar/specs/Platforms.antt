@@ -1,8 +1,7 @@
 -- Names of platforms, with white space round them.
 use Rattle.std.specs.Prelude.{◌≡◌, List, ℕ, ◌++◌}
 use Rattle.filterset_grammar.specs.Text.{WhiteSpace}
-use Rattle.filterset_graph.specs.Platforms.{platform_text}
-use Rattle.filterset_graph.specs.declared.package.BuildPlatform.{BuildPlatform}
+use Rattle.filterset_graph.specs.{Platforms.platform_text, declared.package.BuildPlatform.BuildPlatform}
 
 -- the text is the platform's name between two lists of white space
 pub record Names (value : List ℕ) (platform : BuildPlatform) : Type 0 where

@@ -1,18 +1,15 @@
 -- Walks over the index are the paths among the packages.
 use Rattle.std.proofs.Common.{Vec, ◌≡◌, ◌<◌, ◌↔◌, ℕ, Bool, true, List, [], ◌∷◌, Option, Some, None, Result, Ok, Err, IsTrue, length, get_or, refl, sym, ◌∙◌, ap, subst, arith}
-use Rattle.std.specs.Prelude.{Contains, IfOk, slice_get}
-use Rattle.std.specs.Global.{Global}
-use Rattle.std.specs.BTreeMap.{BTreeMap}
+use Rattle.std.specs.{Prelude.Contains, Prelude.IfOk, Prelude.slice_get, Global.Global, BTreeMap.BTreeMap}
 use Rattle.std.proofs.lemmas.List.{length-map}
 use Rattle.std.proofs.lemmas.Option.{none-some, same_Some, slice_get-get_or, slice_get_within}
-use Rattle.filterset_graph.specs.declared.package.PackageMetadata.{PackageMetadata}
-use Rattle.filterset_graph.specs.Edges.{HasEdge, EdgesStayBelow, IsReached, Walk}
-use Rattle.filterset_graph.specs.Walks.{Follows, IsMarked}
-use Rattle.filterset_graph.specs.Packages.{Text, ids, IsLinked, Path}
-use Rattle.filterset_graph.specs.Index.{AreRows, IsIndexed, PositionsAre, index_of}
-use Rattle.filterset_graph.specs.Marked.{MarksReached, MarksReaching}
 use Rattle.filterset_graph.proofs.Positions.{position_from_Contains, Contains-from_position, element_at, element_from_mapped, mapped_at, row_names, row_has}
 use Rattle.filterset_graph.proofs.Steps.{Walk-push}
+use Rattle.filterset_graph.specs.Edges.{HasEdge, EdgesStayBelow, IsReached, Walk}
+use Rattle.filterset_graph.specs.Index.{AreRows, IsIndexed, PositionsAre, index_of}
+use Rattle.filterset_graph.specs.Marked.{MarksReached, MarksReaching}
+use Rattle.filterset_graph.specs.Packages.{Text, ids, IsLinked, Path}
+use Rattle.filterset_graph.specs.{Walks.Follows, Walks.IsMarked, declared.package.PackageMetadata.PackageMetadata}
 
 -- the end of an edge is a package, to which the package at its start is linked
 pub edge_link : (packages : List PackageMetadata) (positions : BTreeMap Text ℕ) (links : List (Vec ℕ Global)) → PositionsAre positions (ids packages) → AreRows positions packages links → (a b : ℕ) (x : Text) → HasEdge links a b → slice_get (ids packages) a ≡ Some x → (y : Text) × (slice_get (ids packages) b ≡ Some y) × IsLinked packages x y

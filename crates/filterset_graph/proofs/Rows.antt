@@ -1,21 +1,13 @@
 -- The steps that make the index.
 use Rattle.std.proofs.Common.{Vec, ◌≡◌, ◌+◌, ◌<◌, ◌≤◌, ◌↔◌, ◌⊎◌, inl, inr, ℕ, Bool, true, false, cond, List, [], ◌∷◌, ◌++◌, Option, Some, None, is_some, length, get_or, take, refl, sym, ◌∙◌, ap, subst, arith}
-use Rattle.std.specs.Prelude.{Contains, All, slice_get}
-use Rattle.std.specs.Global.{Global}
-use Rattle.std.specs.BTreeMap.{BTreeMap}
-use Rattle.std.specs.Cmp.Lexicographic.{slice_cmp}
-use Rattle.std.specs.Ordering.{is_eq, nat_cmp}
-use Rattle.std.specs.Str.{bytes_eq}
-use Rattle.std.proofs.Math.ListN.{set}
-use Rattle.std.proofs.lemmas.Bool.{cases_eq, cases_Bool}
-use Rattle.std.proofs.lemmas.Slice.Eq.{bytes_eq-Decides}
-use Rattle.std.proofs.lemmas.Map.Text.{is_eq-slice_cmp}
-use Rattle.std.proofs.lemmas.List.{take_more, length-map, length-take-le}
+use Rattle.std.specs.{Prelude.Contains, Prelude.All, Prelude.slice_get, Global.Global, BTreeMap.BTreeMap}
+use Rattle.std.specs.{Cmp.Lexicographic.slice_cmp, Ordering.is_eq, Ordering.nat_cmp, Str.bytes_eq}
+use Rattle.std.proofs.{Math.ListN.set, lemmas.Bool.cases_eq, lemmas.Bool.cases_Bool, lemmas.Slice.Eq.bytes_eq-Decides}
+use Rattle.std.proofs.lemmas.{Map.Text.is_eq-slice_cmp, List.take_more, List.length-map, List.length-take-le}
 use Rattle.std.proofs.lemmas.List.Elements.{Contains-append_left, Contains-get_or, Contains-push, Contains-push_cases}
 use Rattle.std.proofs.lemmas.Grind.{common_steps}
 use Rattle.std.proofs.lemmas.Option.{gets, none-some, same_Some, slice_get-get_or, slice_get_within, get_or_from_slice_get}
-use Rattle.filterset_graph.specs.declared.package.PackageMetadata.{PackageMetadata}
-use Rattle.filterset_graph.specs.Edges.{HasEdge}
+use Rattle.filterset_graph.specs.{declared.package.PackageMetadata.PackageMetadata, Edges.HasEdge}
 use Rattle.filterset_graph.specs.Packages.{Text, ids, AllDiffer, IsFirstRepeat, LinksKnown, IsUnknownLink, IsFirstUnknownLink}
 use Rattle.filterset_graph.specs.Index.{PositionsAre, index_of, IsRowOf, AreRows, AddsEdges, IsReversed}
 use Rattle.filterset_graph.specs.PartRefusals.{IsFirstWithout}

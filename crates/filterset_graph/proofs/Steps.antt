@@ -1,16 +1,12 @@
 -- The steps of the search over plain lists.
 use Rattle.std.proofs.Common.{Vec, ◌≡◌, ◌≢◌, ◌+◌, ◌<◌, ◌⊎◌, ℕ, Bool, true, false, List, [], ◌∷◌, ◌++◌, Some, length, get_or, take, refl, sym, ◌∙◌, ap, subst, inl, inr, arith, length-append, ◌↔◌}
 use Rattle.std.specs.Prelude.{Contains, slice_get}
-use Rattle.std.proofs.Math.ListN.{set, length-set}
-use Rattle.std.proofs.lemmas.Grind.{common_steps}
-use Rattle.std.proofs.lemmas.List.{take_more}
+use Rattle.std.proofs.{Math.ListN.set, Math.ListN.length-set, lemmas.Grind.common_steps, lemmas.List.take_more}
 use Rattle.std.proofs.lemmas.List.Elements.{Contains-append_left, Contains-push, Contains-push_cases}
-use Rattle.std.proofs.lemmas.List.Sums.{sum_by-set}
-use Rattle.std.proofs.lemmas.Bool.{cases_eq}
+use Rattle.std.proofs.lemmas.{List.Sums.sum_by-set, Bool.cases_eq}
 use Rattle.std.proofs.lemmas.Option.{same_Some, gets, slice_get_within, get_or_from_slice_get}
 use Rattle.std.specs.declared.alloc.Global.{Global}
-use Rattle.filterset_graph.specs.Edges.{HasEdge, IsReached, Walk}
-use Rattle.filterset_graph.specs.Walks.{Follows, IsMarked}
+use Rattle.filterset_graph.specs.{Edges.HasEdge, Edges.IsReached, Edges.Walk, Walks.Follows, Walks.IsMarked}
 use Rattle.filterset_graph.specs.Search.{unmarked, MarksAll, Spreads}
 
 pub slice_get-set_same : {X : Type 0} (xs : List X) (i : ℕ) (x : X) → i < length xs → slice_get (set xs i x) i ≡ Some x

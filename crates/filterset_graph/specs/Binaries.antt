@@ -3,8 +3,7 @@ use Rattle.std.specs.Prelude.{◌≡◌, ◌≢◌, ◌++◌, ◌||◌, List, Op
 use Rattle.std.specs.Str.{bytes_eq}
 use Rattle.filterset_graph.specs.declared.package.BuildTargetId.{BuildTargetId}
 use Rattle.filterset_graph.specs.declared.package.BuildTargetId.TheVariants.{Library, Binary, Example, Test, Benchmark, BuildScript}
-use Rattle.filterset_graph.specs.declared.package.BuildTarget.{BuildTarget}
-use Rattle.filterset_graph.specs.declared.package.PackageMetadata.{PackageMetadata}
+use Rattle.filterset_graph.specs.declared.package.{BuildTarget.BuildTarget, PackageMetadata.PackageMetadata}
 use Rattle.filterset_graph.specs.Packages.{Text}
 
 -- the id of the test binary of this kind that is made of a target of a package: for the tests of a library the

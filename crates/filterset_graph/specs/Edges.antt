@@ -1,7 +1,6 @@
 -- Walks along edges between positions, given as rows of positions. Only proofs cite this file.
 use Rattle.std.specs.Prelude.{◌≡◌, ◌<◌, List, ℕ, Bool, Some, Contains, slice_get}
-use Rattle.std.specs.declared.vec.Vec.{Vec}
-use Rattle.std.specs.declared.alloc.Global.{Global}
+use Rattle.std.specs.declared.{vec.Vec.Vec, alloc.Global.Global}
 use Rattle.filterset_graph.specs.Walks.{Follows, IsMarked}
 
 -- the row of the position a names the position b

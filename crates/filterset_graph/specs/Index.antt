@@ -1,11 +1,7 @@
 -- The index of a graph.
 use Rattle.std.specs.Prelude.{◌≡◌, ◌↔◌, ◌⊎◌, Contains, List, ℕ, Option, Some, length, map, slice_get, Vec}
-use Rattle.std.specs.Global.{Global}
-use Rattle.std.specs.BTreeMap.{BTreeMap, get}
-use Rattle.std.specs.Cmp.Lexicographic.{slice_cmp}
-use Rattle.std.specs.Ordering.{nat_cmp}
-use Rattle.filterset_graph.specs.declared.package.PackageMetadata.{PackageMetadata}
-use Rattle.filterset_graph.specs.Edges.{HasEdge}
+use Rattle.std.specs.{Global.Global, BTreeMap.BTreeMap, BTreeMap.get, Cmp.Lexicographic.slice_cmp, Ordering.nat_cmp}
+use Rattle.filterset_graph.specs.{declared.package.PackageMetadata.PackageMetadata, Edges.HasEdge}
 use Rattle.filterset_graph.specs.Packages.{Text, ids}
 
 -- the position of the package with this id

@@ -1,7 +1,6 @@
 -- The texts of kinds.
 use Rattle.std.specs.Prelude.{List, ℕ, string_bytes}
-use Rattle.filterset_graph.specs.declared.binary.KindText.{KindText}
-use Rattle.filterset_graph.specs.declared.binary.KindText.TheVariants.{Fixed, Owned}
+use Rattle.filterset_graph.specs.declared.binary.KindText.{KindText, TheVariants.Fixed, TheVariants.Owned}
 
 -- the text of a kind
 abbrev pub text_of : KindText → List ℕ

@@ -2,8 +2,7 @@
 use Rattle.std.specs.Prelude.{◌≡◌, ◌↔◌, List, ℕ, Bool, Some, Vec, slice_get}
 use Rattle.std.specs.Global.{Global}
 use Rattle.filterset_graph.specs.declared.package.PackageMetadata.{PackageMetadata}
-use Rattle.filterset_graph.specs.Packages.{Text, Path, ids}
-use Rattle.filterset_graph.specs.Walks.{IsMarked}
+use Rattle.filterset_graph.specs.{Packages.Text, Packages.Path, Packages.ids, Walks.IsMarked}
 
 -- a package with this id is marked
 abbrev pub IsMarkedId : List PackageMetadata → List Bool → Text → Type 0

@@ -1,7 +1,6 @@
 -- Packages, their links, and paths of links.
 use Rattle.std.specs.Prelude.{◌≡◌, ◌<◌, List, ℕ, Some, All, Contains, length, map, slice_get}
-use Rattle.filterset_graph.specs.declared.package.PackageMetadata.{PackageMetadata}
-use Rattle.filterset_graph.specs.Walks.{Follows}
+use Rattle.filterset_graph.specs.{declared.package.PackageMetadata.PackageMetadata, Walks.Follows}
 
 -- a text, by its bytes
 abbrev pub Text : Type 0

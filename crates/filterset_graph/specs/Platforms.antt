@@ -1,7 +1,6 @@
 -- The texts of platforms.
 use Rattle.std.specs.Prelude.{List, ℕ, codes}
-use Rattle.filterset_graph.specs.declared.package.BuildPlatform.{BuildPlatform}
-use Rattle.filterset_graph.specs.declared.package.BuildPlatform.TheVariants.{Target, Host}
+use Rattle.filterset_graph.specs.declared.package.BuildPlatform.{BuildPlatform, TheVariants.Target, TheVariants.Host}
 
 -- what a platform prints
 abbrev pub platform_text : BuildPlatform → List ℕ

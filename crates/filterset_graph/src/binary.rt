@@ -1,8 +1,7 @@
 //! Test binaries: their kinds, their ids, and the names of their tests.
 ghost use Rattle.std.specs.Prelude.{◌≡◌, IfOk, string_bytes};
+ghost use Rattle.std.specs.{Cmp.Lexicographic.nat_list_eq_equiv, Str.bytes_eq};
 ghost use Rattle.std.specs.Cmp as laws;
-ghost use Rattle.std.specs.Cmp.Lexicographic.{nat_list_eq_equiv};
-ghost use Rattle.std.specs.Str.{bytes_eq};
 ghost use Rattle.filterset_graph.specs.Binaries.{written_id};
 
 use std::alloc::{AllocError, Global};

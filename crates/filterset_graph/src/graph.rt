@@ -2,8 +2,7 @@
 ghost use Rattle.std.specs.Prelude.{◌≡◌, ◌↔◌, ℕ, [], Some, IsTrue, IsErrOf, IfOk, IfErr, OnOk, MatchOption, Contains, length, slice_get, vec_len};
 ghost use Rattle.filterset_graph.specs.declared.refusal.DependsRefusal.TheVariants as unanswered;
 ghost use Rattle.filterset_graph.specs.Packages.{Path, AllDiffer, LinksKnown, ids};
-ghost use Rattle.filterset_graph.specs.Marked.{MarksReached, MarksReaching};
-ghost use Rattle.filterset_graph.specs.Refusals.{IsRefusalOf};
+ghost use Rattle.filterset_graph.specs.{Marked.MarksReached, Marked.MarksReaching, Refusals.IsRefusalOf};
 
 use crate::index::{positions_of, resolve_links, reverse};
 use crate::package::{PackageId, PackageMetadata};
@@ -27,8 +26,7 @@ pub struct PackageGraph {
 
 impl Model for PackageGraph {
     ghost use Rattle.std.specs.Prelude.{List};
-    ghost use Rattle.filterset_graph.specs.declared.package.PackageMetadata.{PackageMetadata};
-    ghost use Rattle.filterset_graph.specs.Index.{IsIndexed};
+    ghost use Rattle.filterset_graph.specs.{declared.package.PackageMetadata.PackageMetadata, Index.IsIndexed};
 
     ghost Value = { List PackageMetadata };
 

@@ -1,12 +1,10 @@
 //! Packages: their ids, build targets and dependencies.
 ghost use Rattle.std.specs.Prelude.{◌≡◌, IfOk, string_bytes};
 ghost use Rattle.std.proofs.Common.{refl, rules};
-ghost use Rattle.std.specs.Cmp as laws;
 ghost use Rattle.std.specs.Cmp.Lexicographic.{slice_cmp, nat_list_cmp_total, nat_list_eq_equiv, texts_po, texts_ties};
-ghost use Rattle.std.specs.Cmp.Rules.{comparing, hashing};
+ghost use Rattle.std.specs.{Cmp.Rules.comparing, Cmp.Rules.hashing, Ordering.nat_cmp, Str.bytes_eq};
+ghost use Rattle.std.specs.Cmp as laws;
 ghost use Rattle.std.specs.Hash as fed;
-ghost use Rattle.std.specs.Ordering.{nat_cmp};
-ghost use Rattle.std.specs.Str.{bytes_eq};
 
 use crate::binary::RustTestBinaryKind;
 use std::alloc::{AllocError, Global};
@@ -70,8 +68,7 @@ impl Eq for PackageId {
 
 impl PartialOrd for PackageId {
     ghost use Rattle.std.specs.Cmp.Lexicographic.{slice_cmp, texts_po};
-    ghost use Rattle.std.specs.Ordering.{nat_cmp};
-    ghost use Rattle.std.specs.Prelude.{Some};
+    ghost use Rattle.std.specs.{Ordering.nat_cmp, Prelude.Some};
 
     ghost partial_cmp = { λ x y. Some (slice_cmp nat_cmp x y) };
 

@@ -2,16 +2,12 @@
 use Rattle.std.proofs.Common.{◌≡◌, Result, Ok, Err, subst, sym, ap, refl, string_bytes, [], List, ℕ, Option, Some, None, is_some, true}
 use Rattle.std.specs.Prelude.{IfErr, IsErrAnd, MatchOption, codes}
 use Rattle.std.specs.declared.alloc.AllocError.{AllocError}
-use Rattle.serde_json.specs.Data.{Data}
-use Rattle.serde_json.specs.Find.{as_object, get}
+use Rattle.serde_json.specs.{Data.Data, Find.as_object, Find.get}
 use Rattle.filterset_json.specs.Paths.{joined, key_text, step_text}
 use Rattle.filterset_json.specs.Places.{After, Names, Place, WrongMember}
-use Rattle.filterset_json.specs.Shape.{Text}
-use Rattle.filterset_json.specs.Refusals.{Refuses, IsAfter, IsWrong}
-use Rattle.filterset_json.specs.declared.refusal.WrongValue.{WrongValue}
-use Rattle.filterset_json.specs.declared.path.Step.{Step}
-use Rattle.filterset_json.specs.declared.refusal.EntryRefusal.{EntryRefusal}
-use Rattle.filterset_json.specs.declared.refusal.EntryRefusal.TheVariants.{Wrong, OutOfMemory}
+use Rattle.filterset_json.specs.{Shape.Text, Refusals.Refuses, Refusals.IsAfter, Refusals.IsWrong}
+use Rattle.filterset_json.specs.declared.{refusal.WrongValue.WrongValue, path.Step.Step}
+use Rattle.filterset_json.specs.declared.refusal.EntryRefusal.{EntryRefusal, TheVariants.Wrong, TheVariants.OutOfMemory}
 
 -- what is refused is refused for each fact from which that follows
 pub Refuses-if : {A B : Type 0} (r : EntryRefusal) → (B → A) → Refuses A r → Refuses B r

@@ -1,17 +1,12 @@
 -- Lists of entries, item by item, and the keys of objects.
 use Rattle.std.proofs.Common.{◌≡◌, ℕ, zero, suc, ◌+◌, ◌<◌, ◌⊎◌, inl, inr, List, [], ◌∷◌, ◌++◌, length, get_or, map, take, subst, Contains, arith, refl, Global, String, string_bytes, Bor, Decides, Option, Some, MatchOption}
-use Rattle.std.specs.List.{list_all}
-use Rattle.std.specs.Map as maps
 use Rattle.std.proofs.lemmas.Bool.Decides.{Decides-and, Decides-like, Decides-or}
-use Rattle.std.proofs.lemmas.List.{map-id}
-use Rattle.std.proofs.lemmas.Slice.Eq.{bytes_eq-Decides}
+use Rattle.std.proofs.lemmas.{List.map-id, Slice.Eq.bytes_eq-Decides}
+use Rattle.std.specs.{List.list_all, Prelude.IsSomeAnd}
+use Rattle.std.specs.Map as maps
 use Rattle.serde_json.specs.Data.{Data, null, boolean, number, string, array, object, no_items, item, Members}
-use Rattle.serde_json.specs.Find.{as_object}
-use Rattle.serde_json.specs.View.{view, items_view, members_view}
-use Rattle.serde_json.specs.declared.value.Value.{Value}
-use Rattle.std.specs.Prelude.{IsSomeAnd}
-use Rattle.filterset_json.specs.Paths.{step_text}
-use Rattle.filterset_json.specs.Places.{After, Place, WrongItem}
+use Rattle.serde_json.specs.{Find.as_object, View.view, View.items_view, View.members_view, declared.value.Value.Value}
+use Rattle.filterset_json.specs.{Paths.step_text, Places.After, Places.Place, Places.WrongItem}
 use Rattle.filterset_json.specs.Shape.{Each, IsListOf, KeysAmong, is_named}
 use Rattle.filterset_json.specs.declared.path.Step.TheVariants.{Item}
 

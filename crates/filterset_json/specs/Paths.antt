@@ -1,10 +1,8 @@
 -- Paths to the values of a file.
 use Rattle.std.specs.Prelude.{ℕ, [], ◌∷◌, ◌++◌, ◌==◌, ◌||◌, Bool, codes, decimal, if◌then◌else◌}
-use Rattle.std.specs.Char.{is_ascii_alphanumeric}
-use Rattle.std.specs.List.{list_all}
+use Rattle.std.specs.{Char.is_ascii_alphanumeric, List.list_all}
 use Rattle.filterset_json.specs.Shape.{Text}
-use Rattle.filterset_json.specs.declared.path.Step.{Step}
-use Rattle.filterset_json.specs.declared.path.Step.TheVariants.{Key, Item}
+use Rattle.filterset_json.specs.declared.path.Step.{Step, TheVariants.Key, TheVariants.Item}
 
 -- whether a byte stands in a key without quotes
 abbrev pub is_bare_byte : ℕ → Bool

@@ -1,11 +1,8 @@
 -- Where a value is wrong, and what it must be.
 use Rattle.std.specs.Prelude.{◌≡◌, ◌⊎◌, ◌++◌, ℕ, suc, List, [], ◌∷◌, All, IsSomeAnd, MatchOption, Some, codes, decimal, slice_get, string_bytes, take}
-use Rattle.serde_json.specs.Data.{Data, Items, no_items, item}
-use Rattle.serde_json.specs.Find.{as_array, as_object, get}
-use Rattle.filterset_json.specs.Paths.{joined, key_text}
-use Rattle.filterset_json.specs.Shape.{IsListOf, IsText, Required, Text}
-use Rattle.filterset_json.specs.declared.refusal.EntryRefusal.{EntryRefusal}
-use Rattle.filterset_json.specs.declared.refusal.EntryRefusal.TheVariants.{Wrong}
+use Rattle.serde_json.specs.{Data.Data, Data.Items, Data.no_items, Data.item, Find.as_array, Find.as_object, Find.get}
+use Rattle.filterset_json.specs.{Paths.joined, Paths.key_text, Shape.IsListOf, Shape.IsText, Shape.Required, Shape.Text}
+use Rattle.filterset_json.specs.declared.refusal.EntryRefusal.{EntryRefusal, TheVariants.Wrong}
 use Rattle.filterset_json.specs.declared.refusal.WrongValue.{WrongValue}
 
 -- the path to a value, and what the value must be

@@ -1,10 +1,7 @@
 -- What a refusal says.
 use Rattle.std.specs.Prelude.{◌≡◌, string_bytes}
-use Rattle.filterset_json.specs.Paths.{joined, step_text}
-use Rattle.filterset_json.specs.Shape.{Text}
-use Rattle.filterset_json.specs.declared.path.Step.{Step}
-use Rattle.filterset_json.specs.declared.refusal.EntryRefusal.{EntryRefusal}
-use Rattle.filterset_json.specs.declared.refusal.EntryRefusal.TheVariants.{Wrong, OutOfMemory}
+use Rattle.filterset_json.specs.{Paths.joined, Paths.step_text, Shape.Text, declared.path.Step.Step}
+use Rattle.filterset_json.specs.declared.refusal.EntryRefusal.{EntryRefusal, TheVariants.Wrong, TheVariants.OutOfMemory}
 
 -- a value is wrong, and the fact does not hold; or it is out of memory
 abbrev pub Refuses : Type 0 → EntryRefusal → Type 0

@@ -1,12 +1,9 @@
 -- Shapes of JSON values.
 use Rattle.std.specs.Prelude.{◌≡◌, ℕ, Bool, List, [], ◌∷◌, Contains, Option, None, Some, IsSomeAnd, MatchOption}
-use Rattle.std.specs.Borrow.{Bor}
-use Rattle.std.specs.List.{list_any}
-use Rattle.std.specs.Str.{bytes_eq}
+use Rattle.std.specs.{Borrow.Bor, List.list_any, Str.bytes_eq}
 use Rattle.serde_json.specs.Data.{Data, null, boolean, number, string, array, object, Items, no_items, item, Members, no_members, member, unsigned}
 use Rattle.serde_json.specs.Find.{get}
-use Rattle.filterset_graph.specs.Platforms.{platform_text}
-use Rattle.filterset_graph.specs.declared.package.BuildPlatform.{BuildPlatform}
+use Rattle.filterset_graph.specs.{Platforms.platform_text, declared.package.BuildPlatform.BuildPlatform}
 
 -- a text, by its bytes
 abbrev pub Text : Type 0

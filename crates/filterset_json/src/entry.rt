@@ -1,12 +1,8 @@
 //! Entries: values, lists, pairs and triples.
 ghost use Rattle.std.specs.Prelude.{◌≡◌, IfErr, IfOk, [], codes};
-ghost use Rattle.serde_json.specs.Data.{Data, Items, array};
-ghost use Rattle.serde_json.specs.Find.{as_array};
-ghost use Rattle.serde_json.specs.View.{items_view, view};
-ghost use Rattle.filterset_json.specs.Paths.{step_text};
-ghost use Rattle.filterset_json.specs.Places.{After, Itself, Names, Place};
-ghost use Rattle.filterset_json.specs.Refusals.{Refuses};
-ghost use Rattle.filterset_json.specs.Shape.{IsText, Text};
+ghost use Rattle.serde_json.specs.{Data.Data, Data.Items, Data.array, Find.as_array, View.items_view, View.view};
+ghost use Rattle.filterset_json.specs.{Paths.step_text, Places.After, Places.Itself, Places.Names, Places.Place};
+ghost use Rattle.filterset_json.specs.{Refusals.Refuses, Shape.IsText, Shape.Text};
 
 use crate::path::Step;
 use crate::refusal::EntryRefusal;
@@ -67,8 +63,7 @@ pub fn text_of<'v>(alloc: Global, value: &'v Value) -> Result<&'v str, EntryRefu
 
 impl Entry for String {
     ghost use Rattle.std.specs.Prelude.{codes, string_bytes};
-    ghost use Rattle.filterset_json.specs.Places.{Itself};
-    ghost use Rattle.filterset_json.specs.Shape.{IsText, Text};
+    ghost use Rattle.filterset_json.specs.{Places.Itself, Shape.IsText, Shape.Text};
 
     ghost Row = { Text };
 
@@ -87,8 +82,7 @@ impl Entry for String {
 
 impl Entry for bool {
     ghost use Rattle.std.specs.Prelude.{Bool, codes};
-    ghost use Rattle.filterset_json.specs.Places.{Itself};
-    ghost use Rattle.filterset_json.specs.Shape.{IsBoolean};
+    ghost use Rattle.filterset_json.specs.{Places.Itself, Shape.IsBoolean};
 
     ghost Row = { Bool };
 
@@ -110,8 +104,7 @@ impl Entry for bool {
 
 impl Entry for usize {
     ghost use Rattle.std.specs.Prelude.{codes, ℕ};
-    ghost use Rattle.filterset_json.specs.Places.{Itself};
-    ghost use Rattle.filterset_json.specs.Shape.{IsNumber};
+    ghost use Rattle.filterset_json.specs.{Places.Itself, Shape.IsNumber};
 
     ghost Row = { ℕ };
 
@@ -145,8 +138,7 @@ fn items_of<'v>(alloc: Global, value: &'v Value) -> Result<&'v [Value], EntryRef
 
 impl<T: Entry> Entry for Vec<T> {
     ghost use Rattle.std.specs.Prelude.{List, map};
-    ghost use Rattle.filterset_json.specs.Places.{WrongList};
-    ghost use Rattle.filterset_json.specs.Shape.{IsListOf};
+    ghost use Rattle.filterset_json.specs.{Places.WrongList, Shape.IsListOf};
 
     ghost Row = { List T.Row };
 

@@ -8,8 +8,7 @@ use std::alloc::Global;
 
 impl Entry for PackageId {
     ghost use Rattle.std.specs.Prelude.{codes};
-    ghost use Rattle.filterset_json.specs.Places.{Itself};
-    ghost use Rattle.filterset_json.specs.Shape.{IsText, Text};
+    ghost use Rattle.filterset_json.specs.{Places.Itself, Shape.IsText, Shape.Text};
 
     ghost Row = { Text };
 
@@ -28,8 +27,7 @@ impl Entry for PackageId {
 
 impl Entry for RustBinaryId {
     ghost use Rattle.std.specs.Prelude.{codes};
-    ghost use Rattle.filterset_json.specs.Places.{Itself};
-    ghost use Rattle.filterset_json.specs.Shape.{IsText, Text};
+    ghost use Rattle.filterset_json.specs.{Places.Itself, Shape.IsText, Shape.Text};
 
     ghost Row = { Text };
 
@@ -48,8 +46,7 @@ impl Entry for RustBinaryId {
 
 impl Entry for RustTestBinaryKind {
     ghost use Rattle.std.specs.Prelude.{codes};
-    ghost use Rattle.filterset_json.specs.Places.{Itself};
-    ghost use Rattle.filterset_json.specs.Shape.{IsText, Text};
+    ghost use Rattle.filterset_json.specs.{Places.Itself, Shape.IsText, Shape.Text};
 
     ghost Row = { Text };
 
@@ -68,8 +65,7 @@ impl Entry for RustTestBinaryKind {
 
 impl Entry for TestCaseName {
     ghost use Rattle.std.specs.Prelude.{codes};
-    ghost use Rattle.filterset_json.specs.Places.{Itself};
-    ghost use Rattle.filterset_json.specs.Shape.{IsText, Text};
+    ghost use Rattle.filterset_json.specs.{Places.Itself, Shape.IsText, Shape.Text};
 
     ghost Row = { Text };
 
@@ -88,8 +84,7 @@ impl Entry for TestCaseName {
 
 impl Entry for BuildPlatform {
     ghost use Rattle.std.specs.Prelude.{codes};
-    ghost use Rattle.filterset_json.specs.Places.{Itself};
-    ghost use Rattle.filterset_json.specs.Shape.{IsPlatform};
+    ghost use Rattle.filterset_json.specs.{Places.Itself, Shape.IsPlatform};
     ghost use Rattle.filterset_graph.specs.declared.package.BuildPlatform as platforms;
 
     ghost Row = { platforms.BuildPlatform };

@@ -1,7 +1,6 @@
 //! Objects: which keys they may have, and the entries under their keys.
 ghost use Rattle.std.specs.Prelude.{◌≡◌, IfErr, IfOk, OnOk, Option, [], codes, map, option_map, string_bytes};
-ghost use Rattle.std.specs.BTreeMap.{keys};
-ghost use Rattle.std.specs.List.{list_all};
+ghost use Rattle.std.specs.{BTreeMap.keys, List.list_all};
 ghost use Rattle.serde_json.specs.View.{view};
 ghost use Rattle.filterset_json.specs.Places.{Itself, Names, WrongIfGiven, WrongMember};
 ghost use Rattle.filterset_json.specs.Refusals.{Refuses};

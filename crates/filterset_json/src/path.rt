@@ -1,6 +1,5 @@
 //! Paths to the values of a file, as `packages[3].targets[0].kind`.
-ghost use Rattle.std.specs.Prelude.{◌≡◌, ◌++◌, IfOk, string_bytes};
-ghost use Rattle.std.specs.List.{list_all};
+ghost use Rattle.std.specs.{Prelude.◌≡◌, Prelude.◌++◌, Prelude.IfOk, Prelude.string_bytes, List.list_all};
 ghost use Rattle.filterset_json.specs.Paths.{is_bare, is_bare_byte, joined, step_text};
 
 use std::alloc::{AllocError, Global};

@@ -1,7 +1,6 @@
 //! Writes whole texts to writers.
 ghost use Rattle.std.specs.Prelude.{◌≡◌, ◌||◌, ◌++◌, ◌<◌, Bool, Err, IsTrue, List, OnErr, OnOk, Option, false, length, ℕ};
-ghost use Rattle.std.specs.Io.KnownBytes.{Appends, WriteAppends};
-ghost use Rattle.std.specs.Io.{WritesAtMost};
+ghost use Rattle.std.specs.Io.{KnownBytes.Appends, KnownBytes.WriteAppends, WritesAtMost};
 ghost use Rattle.filterset_json.specs.Marks.{write_fails};
 
 use crate::fault::RunFault;

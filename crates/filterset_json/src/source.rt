@@ -1,7 +1,6 @@
 //! Reads readers to their end.
 ghost use Rattle.std.specs.Prelude.{◌≡◌, ◌≢◌, ◌||◌, Bool, Err, IfOk, IfSome, IsTrue, List, OnOk, Option, false, ℕ};
-ghost use Rattle.std.specs.Io.KnownBytes.{ReadConsumes};
-ghost use Rattle.std.specs.Io.{ReadsAtMost};
+ghost use Rattle.std.specs.Io.{KnownBytes.ReadConsumes, ReadsAtMost};
 ghost use Rattle.filterset_json.specs.Marks.{read_fails, read_ends};
 
 use crate::fault::RunFault;

@@ -5,14 +5,11 @@ use Rattle.std.proofs.lemmas.List.Elements.{All-nil, All-cons, All-head, All-tai
 use Rattle.filterset_faults.specs.declared.span.SourceSpan.{SourceSpan}
 use Rattle.filterset_grammar.specs.Tree as tree
 use Rattle.filterset_grammar.specs.Tree.{Leaf, Tree, tree_leaves, SameTree}
-use Rattle.filterset_grammar.specs.declared.operators.Joiner.{Joiner}
-use Rattle.filterset_grammar.specs.declared.operators.NotOperator.{NotOperator}
-use Rattle.filterset_grammar.specs.declared.operators.OrOperator.{OrOperator}
+use Rattle.filterset_grammar.specs.declared.operators.{Joiner.Joiner, NotOperator.NotOperator, OrOperator.OrOperator}
 use Rattle.filterset_grammar.specs.Grammar.{Spells}
 use Rattle.filterset_grammar.specs.Printing.{printed, IsBasic, IsNoUnion, IsWellFormedLeaf, WellFormed}
-use Rattle.filterset_language.specs.Held.{IsHeld}
 use Rattle.filterset_grammar.specs.AddedParens.{IsEnclosedUnless, stands, enclosed, IsWithParens, negation, union, join, parens, leaf, HasWellFormedLeaves}
-use Rattle.filterset_language.specs.Levels.{IsOperand}
+use Rattle.filterset_language.specs.{Held.IsHeld, Levels.IsOperand}
 use Rattle.filterset_language.proofs.ReadBack.{printed_reads_back}
 
 -- ---- operands

@@ -1,25 +1,18 @@
 -- Bodies of regular expressions: what is written is read, and what is read is written.
 use Rattle.std.proofs.Common.{◌≡◌, ℕ, suc, ◌+◌, ◌<◌, ◌≤◌, Bool, true, false, cond, eqb, List, [], ◌∷◌, ◌++◌, length, take, drop, get_or, IsCharBoundary, Some, refl, sym, ap, ◌∙◌, subst, arith, length-append, ◌-◌}
-use Rattle.std.specs.Prelude.{◌&&◌, not}
-use Rattle.std.proofs.lemmas.Bool.{eqb-false}
-use Rattle.std.proofs.lemmas.Bool.Decides.{nat_tests}
+use Rattle.std.specs.Prelude.{◌&&◌, not, slice_range}
+use Rattle.std.proofs.lemmas.Bool.{eqb-false, Decides.nat_tests}
 use Rattle.std.proofs.lemmas.List.{take-append-drop, take_at, drop_at, length-take}
-use Rattle.std.proofs.lemmas.Str.{IsCharBoundary-from_rest}
-use Rattle.std.proofs.Math.Seq.{get_or-append_seam}
-use Rattle.filterset_faults.specs.Span.{span}
-use Rattle.filterset_faults.specs.declared.span.SourceSpan.{SourceSpan}
+use Rattle.std.proofs.{lemmas.Str.IsCharBoundary-from_rest, Math.Seq.get_or-append_seam}
+use Rattle.filterset_faults.specs.{Span.span, declared.span.SourceSpan.SourceSpan}
 use Rattle.filterset_faults.specs.declared.error.ParseSingleError.TheVariants.{InvalidRegexWithoutMessage}
 use Rattle.filterset_grammar.specs.Text.{SlashesFollow, ends_in_backslash, with_slashes, Body}
-use Rattle.std.specs.Prelude.{slice_range}
 use Rattle.filterset_matchers.specs.Pattern.{MayBeRejected}
 use Rattle.filterset_language.specs.Parsing.Position.{Position, position, position_of, advanced, after}
 use Rattle.filterset_language.specs.Parsing.RawTexts.{body_len, body_by, body_at, BodyTaken}
 use Rattle.filterset_language.specs.Faults.{piece, EndsWith}
-use Rattle.filterset_language.specs.Parsing.Recovery.{Found}
-use Rattle.filterset_language.specs.declared.parsing.input.Input.{Input}
-use Rattle.filterset_language.proofs.StepsTakeText.{after_takes}
-use Rattle.filterset_language.proofs.EscapeReading.{map_is}
-use Rattle.filterset_language.proofs.Formed.{ends_front}
+use Rattle.filterset_language.specs.{Parsing.Recovery.Found, declared.parsing.input.Input.Input}
+use Rattle.filterset_language.proofs.{StepsTakeText.after_takes, EscapeReading.map_is, Formed.ends_front}
 use Rattle.filterset_language.proofs.RawTextFaults.{size, begins_here}
 
 pub body_within : (before : ℕ) (t : List ℕ) → body_len before t ≤ length t

@@ -1,12 +1,10 @@
 -- What stands before the next `)`.
 use Rattle.std.proofs.Common.{◌≡◌, ◌≢◌, ℕ, zero, suc, ◌+◌, ◌-◌, ◌<◌, ◌≤◌, true, false, Bool, cond, eqb, List, [], ◌∷◌, length, take, drop, get_or, None, refl, sym, ap, ◌∙◌, subst, arith, IsCharBoundary, ⊎_elim}
 use Rattle.std.specs.Prelude.{codes, All, slice_range}
-use Rattle.std.proofs.lemmas.Bool.Decides.{eqb_tells}
-use Rattle.std.proofs.lemmas.List.Elements.{All-cons, All-nil}
+use Rattle.std.proofs.lemmas.{Bool.Decides.eqb_tells, List.Elements.All-cons, List.Elements.All-nil}
 use Rattle.filterset_language.specs.Parsing.Front.{blank_len, close_len, is_white}
 use Rattle.filterset_language.specs.Parsing.Position.{Position, position_of, advanced, skip, after}
-use Rattle.filterset_language.specs.Parsing.Descent.{bare_end_at}
-use Rattle.filterset_language.specs.declared.parsing.input.Input.{Input}
+use Rattle.filterset_language.specs.{Parsing.Descent.bare_end_at, declared.parsing.input.Input.Input}
 use Rattle.filterset_language.proofs.Positions.{skip_stop}
 use Rattle.filterset_language.specs.Faults.{EndsText, comma, closed, ClosesArgument, at_end, at_close}
 

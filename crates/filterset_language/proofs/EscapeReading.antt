@@ -1,13 +1,9 @@
 -- Escapes: what is written is read, and what is read is written.
 use Rattle.std.proofs.Common.{◌≡◌, ◌≢◌, ℕ, zero, suc, ◌+◌, ◌*◌, ◌<◌, ◌≤◌, Bool, true, false, cond, eqb, ltb, List, [], ◌∷◌, ◌++◌, length, get_or, IsUtf8, IsCharBoundary, Option, Some, None, refl, sym, ap, ◌∙◌, subst, arith, append_assoc, length-append, ⊎_elim}
-use Rattle.std.specs.Prelude.{◌&&◌}
-use Rattle.std.specs.Option.{option_map, option_and_then}
-use Rattle.std.specs.Char.{IsScalar}
+use Rattle.std.specs.{Prelude.◌&&◌, Option.option_map, Option.option_and_then, Char.IsScalar}
+use Rattle.std.proofs.lemmas.Bool.{lt-ltb, ne_eqb, eqb-true, Decides.eqb_tells, Decides.nat_tests}
+use Rattle.std.proofs.{lemmas.Str.IsCharBoundary-after_ascii, Math.Seq.get_or-append_seam}
 use lib.Utf8.{scalar}
-use Rattle.std.proofs.lemmas.Bool.{lt-ltb, ne_eqb, eqb-true}
-use Rattle.std.proofs.lemmas.Bool.Decides.{eqb_tells, nat_tests}
-use Rattle.std.proofs.lemmas.Str.{IsCharBoundary-after_ascii}
-use Rattle.std.proofs.Math.Seq.{get_or-append_seam}
 pub use Rattle.std.proofs.lemmas.Option.{none-some as none_some, same_Some as some_same}
 use Rattle.filterset_grammar.specs.Text.{hex_value, HexDigits, Letter, line_feed, carriage_return, tab, backspace, form_feed, backslash, slash, close, comma, Escape, letter, hexadecimal}
 use Rattle.filterset_language.specs.Parsing.Escapes.{letter_at, digit_at, named, code_from, escape_at}

@@ -1,38 +1,31 @@
 -- What stands at a position of a text.
 use Rattle.std.proofs.Common.{◌≡◌, ◌≢◌, ℕ, ◌+◌, ◌-◌, ◌≤◌, true, false, List, ◌∷◌, ◌++◌, length, take, drop, Option, Some, None, refl, sym, ap, ◌∙◌, subst, arith, length-take, IsCharBoundary}
-use Rattle.std.specs.Prelude.{codes, All}
-use Rattle.std.specs.Option.{option_map}
-use Rattle.std.proofs.lemmas.List.{take-append-drop, take_at}
 use Rattle.std.proofs.Math.Seq.{take-append-add}
-use Rattle.std.proofs.lemmas.Str.{IsCharBoundary-from_rest}
+use Rattle.std.proofs.lemmas.{List.take-append-drop, List.take_at, Str.IsCharBoundary-from_rest}
+use Rattle.std.specs.{Borrow.Bor, Option.option_map, Prelude.codes, Prelude.All}
+use Rattle.filterset_grammar.specs.Grammar.{Name, not_text, join_text, or_text, not_ends}
 use Rattle.filterset_grammar.specs.Text.{Blanks, WhiteSpace}
+use Rattle.filterset_grammar.specs.declared.operators.{Joiner.Joiner, NotOperator.NotOperator}
+use Rattle.filterset_grammar.specs.declared.operators.NotOperator.TheVariants.{LiteralNot, Exclamation}
+use Rattle.filterset_grammar.specs.declared.{operators.OrOperator.OrOperator, predicate.Predicate.Predicate}
 use Rattle.filterset_language.specs.Parsing.Front.{blank_len, close_len, is_white}
-use Rattle.std.specs.Borrow.{Bor}
 use Rattle.filterset_language.specs.Parsing.Position.{Position, position, position_of, skip, skip_from, after, after_word, IsBehind}
 use Rattle.filterset_language.specs.Parsing.Words.{choose, with, not_at, name_at, joiner_at, or_at, name_text}
-use Rattle.filterset_grammar.specs.declared.operators.Joiner.{Joiner}
-use Rattle.filterset_grammar.specs.declared.predicate.Predicate.{Predicate}
-use Rattle.filterset_grammar.specs.Grammar.{Name, not_text, join_text, or_text, not_ends}
 use Rattle.filterset_language.specs.Faults.{ClosesArgument, InvalidAnd, InvalidOr, Misplaced, misplaced_and, misplaced_or, misplaced_AND, misplaced_OR, misplaced_ampersands, misplaced_pipes, EndsWith, BehindBlanks, BeginsOperand, with_name, with_negation, with_parenthesis, IsName, Opener, parenthesis, invalid_and, invalid_or, BeforeOperand, at_start, behind_opener, FaultStands}
-use Rattle.filterset_language.specs.Faults as faults
 use Rattle.filterset_language.specs.Parsing.Recovery.{Found, AtOperand, AtName, behind_misplaced, IsMisplaced}
-use Rattle.filterset_faults.specs.Span.{span}
 use Rattle.filterset_language.specs.declared.parsing.misplaced.Misplaced.{Misplaced as Found-operator}
-use Rattle.filterset_language.specs.declared.parsing.input.Input.{Input}
-use Rattle.filterset_grammar.specs.declared.operators.NotOperator.{NotOperator}
-use Rattle.filterset_grammar.specs.declared.operators.NotOperator.TheVariants.{LiteralNot, Exclamation}
-use Rattle.filterset_grammar.specs.declared.operators.OrOperator.{OrOperator}
-use Rattle.filterset_grammar.specs.declared.predicate.Predicate.TheVariants as matching
-use Rattle.filterset_language.specs.declared.parsing.names.PredicateName.{PredicateName}
-use Rattle.filterset_language.specs.declared.parsing.names.PredicateName.TheVariants as names
-use Rattle.filterset_faults.specs.declared.error.ParseSingleError.TheVariants.{ExpectedOpenParenthesis, ExpectedCloseParenthesis, ExpectedExpr, UnexpectedComma, UnexpectedArgument, InvalidAndOperator, InvalidOrOperator, ExprFoundBinaryOp, ExprFoundUnaryOp}
-use Rattle.filterset_language.proofs.Positions.{behind_same, skip_again}
-use Rattle.filterset_language.proofs.SpelledIsRead.{not_stop}
+use Rattle.filterset_language.specs.declared.parsing.{input.Input.Input, names.PredicateName.PredicateName}
+use Rattle.filterset_language.proofs.{Positions.behind_same, Positions.skip_again, SpelledIsRead.not_stop}
 use Rattle.filterset_language.proofs.SpelledLeavesAreRead.{close_stop, name_stop, open_stop}
 use Rattle.filterset_language.proofs.StepsTakeText.{Takes, word_after, after_takes, skip_takes, JoinerTaken, joiner_takes, OrTaken, or_takes, not_takes, name_takes}
 use Rattle.filterset_language.proofs.RawTextFaults.{size, begins_here, point_ends, rest_ends, piece_ends}
 use Rattle.filterset_language.proofs.ClosingParenthesis.{close_within, close_behind, close_none, close_boundary}
 use Rattle.filterset_language.proofs.WhiteSpaceTest.{white_to}
+use Rattle.filterset_language.specs.Faults as faults
+use Rattle.filterset_faults.specs.Span.{span}
+use Rattle.filterset_faults.specs.declared.error.ParseSingleError.TheVariants.{ExpectedOpenParenthesis, ExpectedCloseParenthesis, ExpectedExpr, UnexpectedComma, UnexpectedArgument, InvalidAndOperator, InvalidOrOperator, ExprFoundBinaryOp, ExprFoundUnaryOp}
+use Rattle.filterset_grammar.specs.declared.predicate.Predicate.TheVariants as matching
+use Rattle.filterset_language.specs.declared.parsing.names.PredicateName.TheVariants as names
 
 -- a text is what is before a position and what is left there
 pub whole : (i : Input) → i.text.now ≡ take i.offset i.text.now ++ i.rest.now

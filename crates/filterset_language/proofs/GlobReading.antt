@@ -1,25 +1,16 @@
 -- Reading the text of a glob: what is read, and that a fault of it stands.
 use Rattle.std.proofs.Common.{◌≡◌, ℕ, ◌-◌, List, length, Bool, Some, None, Result, Ok, Err, refl, ap, subst, arith, length-append}
 use Rattle.std.specs.Prelude.{chars}
-use Rattle.filterset_glob.specs.Faults.{FaultStands, IfFault}
-use Rattle.filterset_glob.specs.declared.fault.GlobRefusal.{GlobRefusal}
-use Rattle.filterset_glob.specs.declared.fault.GlobRefusal.TheVariants.{Fault}
-use Rattle.filterset_glob.specs.Grammar.{GlobText}
-use Rattle.filterset_glob.specs.Reading.{reading}
-use Rattle.filterset_glob.specs.Tokens.{Tokens}
-use Rattle.filterset_glob.proofs.SpelledIsRead.{reading_of_glob}
-use Rattle.filterset_glob.proofs.ReadIsSpelled.{glob_of_reading}
+use Rattle.filterset_glob.proofs.{ReadIsSpelled.glob_of_reading, SpelledIsRead.reading_of_glob}
+use Rattle.filterset_glob.specs.{Faults.FaultStands, Faults.IfFault, Grammar.GlobText, Reading.reading, Tokens.Tokens}
 use Rattle.filterset_glob.specs.declared.fault.GlobConstructError.{GlobConstructError}
-use Rattle.filterset_faults.specs.Span.{span}
-use Rattle.filterset_faults.specs.declared.error.ParseSingleError.TheVariants.{InvalidGlob}
-use Rattle.filterset_language.specs.Parsing.Position.{position_of}
-use Rattle.filterset_language.specs.Parsing.RawTexts.{SpelledTo}
-use Rattle.filterset_matchers.specs.Matcher.{Glob}
-use Rattle.filterset_language.specs.Parsing.Globs.{glob_by, glob_in}
-use Rattle.filterset_language.specs.Parsing.Recovery.{Found}
-use Rattle.filterset_language.specs.declared.parsing.input.Input.{Input}
+use Rattle.filterset_glob.specs.declared.fault.GlobRefusal.{GlobRefusal, TheVariants.Fault}
+use Rattle.filterset_faults.specs.{Span.span, declared.error.ParseSingleError.TheVariants.InvalidGlob}
+use Rattle.filterset_language.specs.Parsing.{Position.position_of, RawTexts.SpelledTo, Globs.glob_by, Globs.glob_in}
+use Rattle.filterset_language.specs.{Parsing.Recovery.Found, declared.parsing.input.Input.Input}
 use Rattle.filterset_language.proofs.RawTextFaults.{size, begins_here, piece_ends}
 use Rattle.filterset_language.proofs.PlatformArguments.{piece_spelled}
+use Rattle.filterset_matchers.specs.Matcher.{Glob}
 
 -- a glob is read
 pub glob_read : (value : List ℕ) (tokens : Tokens) (implicit : Bool) → GlobText (chars value) tokens → glob_in value implicit ≡ Some (Glob value tokens implicit)

@@ -2,13 +2,11 @@
 use Rattle.std.proofs.Common.{ℕ, List, [], ⊎_elim, subst, arith}
 use Rattle.std.proofs.lemmas.List.Elements.{Contains-append_cases, Contains-push_cases}
 use Rattle.std.specs.List.{Contains}
-use Rattle.filterset_faults.specs.declared.error.ParseSingleError.{ParseSingleError}
-use Rattle.filterset_faults.specs.declared.span.SourceSpan.{SourceSpan}
+use Rattle.filterset_faults.specs.declared.{error.ParseSingleError.ParseSingleError, span.SourceSpan.SourceSpan}
 use Rattle.filterset_grammar.specs.Patterns.{LeafIsRead, PatternsAreRead}
 use Rattle.filterset_grammar.specs.Tree.{Tree, Leaf, Matching, Not, Union, Join, Parens, Set, tree_leaves}
 use Rattle.filterset_grammar.specs.declared.predicate.Predicate.{Predicate}
-use Rattle.filterset_matchers.specs.Matcher.{Regex}
-use Rattle.filterset_matchers.specs.Pattern.{IsPattern}
+use Rattle.filterset_matchers.specs.{Matcher.Regex, Pattern.IsPattern}
 use Rattle.filterset_language.specs.Parsed.{LiesOnBody, LiesOnLargeBody}
 
 -- each pattern of the tree is one

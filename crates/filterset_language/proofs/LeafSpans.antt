@@ -1,12 +1,10 @@
 -- Where the spans of a spelled tree's leaves lie in its text: within it, and between two characters.
 use Rattle.std.proofs.Common.{◌≡◌, ℕ, ◌+◌, ◌<◌, ◌≤◌, List, [], ◌∷◌, ◌++◌, length, get_or, IsUtf8, IsCharBoundary, refl, sym, ap, ◌∙◌, subst, arith, append_assoc, length-append}
 use Rattle.std.specs.Prelude.{codes, All, IfSome}
-use Rattle.std.proofs.Math.Seq.{get_or-append_seam}
-use Rattle.std.proofs.lemmas.List.{append-nil}
+use Rattle.std.proofs.{Math.Seq.get_or-append_seam, lemmas.List.append-nil}
 use Rattle.std.proofs.lemmas.List.Elements.{All-nil, All-cons, All-append}
 use Rattle.std.proofs.lemmas.Str.{IsCharBoundary-after_ascii, IsCharBoundary-before_ascii}
-use Rattle.filterset_faults.specs.Span.{span}
-use Rattle.filterset_faults.specs.declared.span.SourceSpan.{SourceSpan}
+use Rattle.filterset_faults.specs.{Span.span, declared.span.SourceSpan.SourceSpan}
 use Rattle.filterset_grammar.specs.Grammar as grammar
 use Rattle.filterset_grammar.specs.Grammar.{Name, not_text, or_text, join_text, BehindMatcher, Call, LeafText, Basic, AndLevel, OrLevel, Spells}
 use Rattle.filterset_grammar.specs.Text.{Blanks, no_blank, space, newline, return_newline}

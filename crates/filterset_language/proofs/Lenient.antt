@@ -1,16 +1,11 @@
 -- What is left of a parse where its faults are dropped beside a tree.
 use Rattle.std.proofs.Common.{◌≡◌, ℕ, List, [], ◌∷◌, length, Some, None, ◌⊎◌, inl, inr, ⊎_elim, refl, sym, ap, ◌∙◌, subst, arith}
-use Rattle.std.specs.Prelude.{All}
-use Rattle.std.specs.Option.{option_map}
-use Rattle.filterset_faults.specs.declared.error.ParseSingleError.{ParseSingleError}
-use Rattle.filterset_faults.specs.declared.span.SourceSpan.{SourceSpan}
-use Rattle.filterset_grammar.specs.Tree.{Tree}
-use Rattle.filterset_language.specs.Views.{tree_of}
-use Rattle.filterset_grammar.specs.Grammar.{Spells}
-use Rattle.filterset_language.specs.Faults.{FaultStands}
+use Rattle.std.specs.{Prelude.All, Option.option_map}
+use Rattle.filterset_faults.specs.declared.{error.ParseSingleError.ParseSingleError, span.SourceSpan.SourceSpan}
+use Rattle.filterset_grammar.specs.{Tree.Tree, Grammar.Spells}
+use Rattle.filterset_language.specs.{Views.tree_of, Faults.FaultStands}
 use Rattle.filterset_language.specs.Parsed.{Reads, Comes, HasRefusedBodies, IsUnreadWith, SpellsNothing}
-use Rattle.filterset_language.specs.declared.parsing.parse.Parsed.{Parsed}
-use Rattle.filterset_language.specs.declared.tree.ParsedExpr.{ParsedExpr}
+use Rattle.filterset_language.specs.declared.{parsing.parse.Parsed.Parsed, tree.ParsedExpr.ParsedExpr}
 use Rattle.filterset_language.proofs.StepsTakeText.{is_some}
 
 module _ (text : List ℕ) (p : Parsed)

@@ -1,41 +1,32 @@
 -- What the readers of matchers and of predicates give.
 use Rattle.std.proofs.Common.{◌≡◌, ℕ, ◌+◌, ◌-◌, ◌≤◌, List, [], ◌∷◌, length, take, Bool, true, false, Option, Some, None, Result, Ok, Err, refl, sym, ap, subst, arith, ⊎_elim}
-use Rattle.std.specs.Prelude.{codes, chars}
-use Rattle.std.specs.Option.{option_map}
-use Rattle.std.proofs.lemmas.Bool.{cases_lt}
-use Rattle.std.proofs.lemmas.List.Elements.{All-append}
-use Rattle.filterset_glob.specs.Tokens.{Tokens}
-use Rattle.filterset_glob.specs.Reading.{reading}
-use Rattle.filterset_glob.specs.declared.fault.GlobConstructError.{GlobConstructError}
+use Rattle.std.specs.{Prelude.codes, Prelude.chars, Option.option_map}
+use Rattle.std.proofs.lemmas.{Bool.cases_lt, List.Elements.All-append}
+use Rattle.filterset_glob.specs.{Tokens.Tokens, Reading.reading, declared.fault.GlobConstructError.GlobConstructError}
 use Rattle.filterset_graph.specs.declared.package.BuildPlatform.{BuildPlatform}
 use Rattle.filterset_faults.specs.declared.error.ParseSingleError.{ParseSingleError}
 use Rattle.filterset_faults.specs.declared.error.ParseSingleError.TheVariants.{InvalidRegexWithoutMessage, InvalidPlatformArgument}
-use Rattle.filterset_faults.specs.Span.{span}
-use Rattle.filterset_faults.specs.declared.span.SourceSpan.{SourceSpan}
+use Rattle.filterset_faults.specs.{Span.span, declared.span.SourceSpan.SourceSpan}
 use Rattle.filterset_language.specs.declared.parsing.names.PredicateName.{PredicateName}
 use Rattle.filterset_language.specs.Parsing.Position.{Position, position_of, skip, after}
-use Rattle.filterset_matchers.specs.Matcher.{Matcher, Equal, Contains, Glob, Regex}
-use Rattle.filterset_matchers.specs.Pattern.{MayBeRejected}
-use Rattle.filterset_grammar.specs.Tree.{Leaf, Matching, Platform, Default, Set}
-use Rattle.filterset_grammar.specs.declared.predicate.Predicate.{Predicate}
-use Rattle.filterset_grammar.specs.Patterns.{MatcherIsRead, LeafIsRead, PatternsAreRead}
-use Rattle.filterset_language.specs.Faults.{EndsWith}
-use Rattle.filterset_language.specs.Parsed.{LiesOnBody}
+use Rattle.filterset_language.specs.{Faults.EndsWith, Parsed.LiesOnBody}
 use Rattle.filterset_language.specs.Parsing.RawTexts.{raw_at, body_at, SpelledTo, BodyTaken}
-use Rattle.filterset_grammar.specs.Platforms.{Names}
-use Rattle.filterset_language.specs.Parsing.PlatformNames.{platform_in}
-use Rattle.filterset_language.specs.Parsing.Globs.{glob_by}
+use Rattle.filterset_language.specs.Parsing.{PlatformNames.platform_in, Globs.glob_by}
 use Rattle.filterset_language.specs.Parsing.Descent.{◌>>=◌, made, sign_at, text_matcher_at, regex_at, matcher_at, between, matching_at, platform_at, bare_end_at, bare_at, default_at, argument_at, leaf_at}
 use Rattle.filterset_language.specs.Parsing.Recovery.{Recovers, Found, Keeps, beside}
 use Rattle.filterset_language.specs.Parsing.Outcome.{Faults, Carried, comes, refused, reads, fails, MakesPattern, LiesOnPattern, GivesMatcher, GivesLeaf, GivesTree}
 use Rattle.filterset_language.specs.declared.parsing.input.Input.{Input}
-use Rattle.filterset_grammar.specs.declared.predicate.TextMatching.{TextMatching}
-use Rattle.filterset_grammar.specs.declared.predicate.TextMatching.TheVariants as ways
 use Rattle.filterset_language.proofs.BodyReading.{body_piece, refused_body_found}
 use Rattle.filterset_language.proofs.Recovering.{bind_some, bind_none, recovers_then, recovers_along}
 use Rattle.filterset_language.proofs.Outcomes.{carried_grows, gives_of, gives_then, gives_map, gives_pair}
 use Rattle.filterset_language.proofs.PlatformArguments.{with_blanks, platform_refused}
 use Rattle.filterset_language.proofs.StepsTakeText.{bind_is, is_some, skip_takes}
+use Rattle.filterset_matchers.specs.Matcher.{Matcher, Equal, Contains, Glob, Regex}
+use Rattle.filterset_matchers.specs.Pattern.{MayBeRejected}
+use Rattle.filterset_grammar.specs.Patterns.{MatcherIsRead, LeafIsRead, PatternsAreRead}
+use Rattle.filterset_grammar.specs.{Platforms.Names, Tree.Leaf, Tree.Matching, Tree.Platform, Tree.Default, Tree.Set}
+use Rattle.filterset_grammar.specs.declared.predicate.{Predicate.Predicate, TextMatching.TextMatching}
+use Rattle.filterset_grammar.specs.declared.predicate.TextMatching.TheVariants as ways
 
 -- ---- regular expressions
 

@@ -1,13 +1,9 @@
 -- What the next reader promises holds from here on.
 use Rattle.std.proofs.Common.{◌≡◌, ℕ, List, Result, Ok, Err, refl}
 use Rattle.std.specs.Prelude.{IfOk}
-use Rattle.filterset_language.specs.Parsing.Outcome.{Faults}
-use Rattle.filterset_language.specs.Parsing.Position.{IsAtOrBehind}
-use Rattle.filterset_language.specs.Parsing.Recovery.{Keeps}
-use Rattle.filterset_language.specs.declared.parsing.input.Input.{Input}
-use Rattle.filterset_language.specs.declared.parsing.input.Read.{Read}
-use Rattle.filterset_language.proofs.Positions.{AtOrBehind-then}
-use Rattle.filterset_language.proofs.Recovering.{keeps_then}
+use Rattle.filterset_language.specs.Parsing.{Outcome.Faults, Position.IsAtOrBehind, Recovery.Keeps}
+use Rattle.filterset_language.specs.declared.parsing.input.{Input.Input, Read.Read}
+use Rattle.filterset_language.proofs.{Positions.AtOrBehind-then, Recovering.keeps_then}
 
 pub ends_onward : {X E : Type 0} (a b : Input) (r : Result (Read X) E) → IfOk r (λ x. IsAtOrBehind b x.end) → IsAtOrBehind a b → IfOk r (λ x. IsAtOrBehind a x.end)
 ends_onward a b (Ok x) behind ab = AtOrBehind-then a b x.end ab behind

@@ -1,16 +1,13 @@
 -- What a reader of operands gives, with what it was given by the readers of their parts.
 use Rattle.std.proofs.Common.{◌≡◌, ℕ, suc, ◌<◌, ◌≤◌, List, length, Option, Some, None, refl, sym, ◌∙◌, subst}
-use Rattle.std.specs.Prelude.{codes}
-use Rattle.std.specs.Option.{option_map}
+use Rattle.std.specs.{Prelude.codes, Option.option_map}
 use Rattle.std.proofs.lemmas.List.Elements.{Contains-append_left, Contains-append_right}
 use Rattle.filterset_faults.specs.declared.error.ParseSingleError.{ParseSingleError}
-use Rattle.filterset_grammar.specs.declared.operators.NotOperator.{NotOperator}
-use Rattle.filterset_grammar.specs.declared.operators.OrOperator.{OrOperator}
+use Rattle.filterset_grammar.specs.declared.operators.{NotOperator.NotOperator, OrOperator.OrOperator}
+use Rattle.filterset_grammar.specs.Tree.{Not, Union, Join, Parens, tree_leaves}
+use Rattle.filterset_grammar.specs.{declared.operators.Joiner.Joiner, Patterns.PatternsAreRead}
 use Rattle.filterset_language.specs.Parsing.Position.{Position, skip, after}
 use Rattle.filterset_language.specs.Parsing.Words.{not_at, name_at, joiner_at, or_at}
-use Rattle.filterset_grammar.specs.Tree.{Not, Union, Join, Parens, tree_leaves}
-use Rattle.filterset_grammar.specs.declared.operators.Joiner.{Joiner}
-use Rattle.filterset_grammar.specs.Patterns.{PatternsAreRead}
 use Rattle.filterset_language.specs.Parsed.{LiesOnBody}
 use Rattle.filterset_language.specs.Parsing.Descent.{Placed, Reader, Next, Make, operand_at, or_level_by, level_by, join, unite}
 use Rattle.filterset_language.specs.Parsing.Recovery.{Recovers, Checked, joined, NoOperand}

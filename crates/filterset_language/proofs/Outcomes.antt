@@ -1,19 +1,14 @@
 -- One step after another, of a reader whose patterns may be refused.
 use Rattle.std.proofs.Common.{◌≡◌, ℕ, zero, suc, ◌+◌, ◌<◌, ◌≤◌, List, ◌++◌, length, false, true, Option, Some, None, refl, sym, ap, ◌∙◌, subst, arith, ⊎_elim, length-append, append_assoc}
-use Rattle.std.specs.List.{Contains}
-use Rattle.std.specs.Option.{option_map}
-use Rattle.std.proofs.lemmas.Bool.{cases_lt}
-use Rattle.std.proofs.lemmas.List.Elements.{All-append}
-use Rattle.filterset_faults.specs.declared.error.ParseSingleError.{ParseSingleError}
-use Rattle.filterset_faults.specs.declared.span.SourceSpan.{SourceSpan}
-use Rattle.filterset_language.specs.Parsing.Position.{Position, skip}
-use Rattle.filterset_grammar.specs.Tree.{Leaf, Tree, tree_leaves}
-use Rattle.filterset_language.specs.Parsed.{LiesOnBody}
+use Rattle.std.specs.{List.Contains, Option.option_map}
+use Rattle.std.proofs.lemmas.{Bool.cases_lt, List.Elements.All-append}
+use Rattle.filterset_faults.specs.declared.{error.ParseSingleError.ParseSingleError, span.SourceSpan.SourceSpan}
+use Rattle.filterset_language.specs.{Parsing.Position.Position, Parsing.Position.skip, Parsed.LiesOnBody}
 use Rattle.filterset_language.specs.Parsing.Descent.{Placed, ◌>>=◌, Reader, Next, Make, more, level_by}
 use Rattle.filterset_language.specs.Parsing.Recovery.{Recovers, Checked, beside, joined}
 use Rattle.filterset_language.specs.Parsing.Outcome.{Faults, Carried, comes, refused, Gives, reads, fails, Going, goes, failed}
-use Rattle.filterset_language.proofs.Recovering.{bind_some, bind_none}
-use Rattle.filterset_language.proofs.ReadingSteps.{more_ends}
+use Rattle.filterset_language.proofs.{Recovering.bind_some, Recovering.bind_none, ReadingSteps.more_ends}
+use Rattle.filterset_grammar.specs.Tree.{Leaf, Tree, tree_leaves}
 
 abbrev Judgement : Type 0 → Type 1
 Judgement Y = Y → ParseSingleError → Type 0

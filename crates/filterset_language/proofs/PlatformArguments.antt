@@ -2,31 +2,25 @@
 use Rattle.std.proofs.Common.{◌≡◌, ℕ, ◌+◌, ◌-◌, ◌<◌, Bool, true, false, cond, eqb, List, [], ◌∷◌, ◌++◌, length, take, drop, IsUtf8, Some, refl, sym, ap, ◌∙◌, subst, arith, append_assoc, length-append}
 use Rattle.std.specs.Prelude.{All, encode_utf8_all, ◌&&◌, ◌||◌}
 use Rattle.std.specs.Str.{trim, trim_start, trim_end}
-use lib.Utf8.{encode}
-use Rattle.std.proofs.lemmas.List.{take_at}
-use Rattle.std.proofs.lemmas.List.Elements.{All-cons, All-nil, All-append}
+use Rattle.std.proofs.lemmas.List.{take_at, Elements.All-cons, Elements.All-nil, Elements.All-append}
 use Rattle.std.proofs.lemmas.Str.{encode_ascii, encodes-append, IsUtf8-past_char}
-use Rattle.filterset_faults.specs.Span.{span}
-use Rattle.filterset_faults.specs.declared.error.ParseSingleError.TheVariants.{InvalidPlatformArgument}
+use lib.Utf8.{encode}
+use Rattle.filterset_faults.specs.{Span.span, declared.error.ParseSingleError.TheVariants.InvalidPlatformArgument}
 use Rattle.filterset_graph.specs.Platforms.{platform_text}
-use Rattle.filterset_graph.specs.declared.package.BuildPlatform.{BuildPlatform}
-use Rattle.filterset_graph.specs.declared.package.BuildPlatform.TheVariants.{Target, Host}
+use Rattle.filterset_graph.specs.declared.package.BuildPlatform.{BuildPlatform, TheVariants.Target, TheVariants.Host}
 use Rattle.filterset_language.specs.Parsing.Front.{blank_len}
-use Rattle.filterset_grammar.specs.Text.{Blanks, no_blank, space, newline, return_newline, is_plain, Spelled, nothing, plain, escaped, WhiteSpace}
 use Rattle.filterset_language.specs.Parsing.Position.{Position, position, position_of, skip}
-use Rattle.filterset_language.specs.Parsing.RawTexts.{raw_at, SpelledTo}
-use Rattle.filterset_grammar.specs.Platforms.{Names}
-use Rattle.filterset_language.specs.Parsing.PlatformNames.{platform_in}
+use Rattle.filterset_language.specs.Parsing.{RawTexts.raw_at, RawTexts.SpelledTo, PlatformNames.platform_in}
 use Rattle.filterset_language.specs.Faults.{EndsText, comma, closed, at_end, at_close}
-use Rattle.filterset_language.specs.Parsing.Recovery.{Found}
-use Rattle.filterset_language.specs.declared.parsing.input.Input.{Input}
-use Rattle.filterset_language.proofs.Positions.{skip_again}
-use Rattle.filterset_language.proofs.ClosingParenthesis.{ends_stop}
+use Rattle.filterset_language.specs.{Parsing.Recovery.Found, declared.parsing.input.Input.Input}
+use Rattle.filterset_language.proofs.{Positions.skip_again, ClosingParenthesis.ends_stop}
 use Rattle.filterset_language.proofs.StepsTakeText.{Takes, blank_front, return_front}
 use Rattle.filterset_language.proofs.RawTexts.{text_again, spelled_none}
 use Rattle.filterset_language.proofs.RawTextFaults.{size, begins_here, piece_ends}
 use Rattle.filterset_language.proofs.WhiteSpaceTest.{IsWhite, white_skipped, white_scalars}
 use Rattle.filterset_language.proofs.Trimming.{start_trimmed, scalars_append, names_utf8, names_trimmed, trimmed_names, platform_again}
+use Rattle.filterset_grammar.specs.Text.{Blanks, no_blank, space, newline, return_newline, is_plain, Spelled, nothing, plain, escaped, WhiteSpace}
+use Rattle.filterset_grammar.specs.Platforms.{Names}
 
 -- ---- blanks before a raw text
 

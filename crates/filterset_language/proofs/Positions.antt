@@ -1,15 +1,11 @@
 -- Steps over a text.
 use Rattle.std.proofs.Common.{◌≡◌, ◌≢◌, ℕ, zero, ◌+◌, ◌<◌, ◌≤◌, Bool, true, false, cond, eqb, List, [], ◌∷◌, ◌++◌, length, drop, get_or, IsUtf8, IsCharBoundary, Some, None, refl, sym, ap, ◌∙◌, arith, length-drop, ⊎_elim}
 use Rattle.std.specs.Prelude.{◌||◌, ◌&&◌}
-use Rattle.std.proofs.lemmas.Bool.{eq-eqb}
-use Rattle.std.proofs.lemmas.Bool.Decides.{eqb_tells, nat_tests}
-use Rattle.std.proofs.lemmas.List.{drop-drop}
+use Rattle.std.proofs.lemmas.{Bool.eq-eqb, Bool.Decides.eqb_tells, Bool.Decides.nat_tests, List.drop-drop}
 use Rattle.std.proofs.lemmas.Str.{is_utf8-from_IsUtf8, IsCharBoundary-after_ascii, IsCharBoundary-start}
-use Rattle.filterset_language.specs.Parsing.Front.{blank_len}
-use Rattle.filterset_language.specs.Parsing.Seam.{IsSeam}
-use Rattle.filterset_language.specs.declared.parsing.input.Input.{Input}
-use Rattle.filterset_grammar.specs.Text.{Blanks, no_blank, space, newline, return_newline}
+use Rattle.filterset_language.specs.{Parsing.Front.blank_len, Parsing.Seam.IsSeam, declared.parsing.input.Input.Input}
 use Rattle.filterset_language.specs.Parsing.Position.{position, position_of, behind, skip_from, IsBehind, IsAtOrBehind}
+use Rattle.filterset_grammar.specs.Text.{Blanks, no_blank, space, newline, return_newline}
 
 -- an input some bytes further
 pub seam_on : (i : Input) (n : ℕ) (rest : List ℕ) → n ≤ length i.rest.now → drop n i.rest.now ≡ rest → IsUtf8 rest → IsSeam i.text.now rest (i.offset + n)

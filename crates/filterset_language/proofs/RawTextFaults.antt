@@ -5,13 +5,10 @@ use Rattle.std.proofs.lemmas.List.{drop_at}
 use Rattle.std.proofs.lemmas.Str.{IsUtf8-from_is_utf8, IsCharBoundary-from_drop, IsCharBoundary-from_rest}
 use Rattle.filterset_faults.specs.Span.{span}
 use Rattle.filterset_faults.specs.declared.error.ParseSingleError.TheVariants.{InvalidString, InvalidEscapeCharacter, ExpectedCloseRegex}
-use Rattle.filterset_language.specs.Parsing.Position.{position_of, after}
-use Rattle.filterset_language.specs.Parsing.Escapes.{escape_at}
+use Rattle.filterset_language.specs.Parsing.{Position.position_of, Position.after, Escapes.escape_at}
 use Rattle.filterset_language.specs.Faults.{EndsText, ClosesArgument}
-use Rattle.filterset_language.specs.Parsing.Recovery.{Found}
-use Rattle.filterset_language.specs.declared.parsing.input.Input.{Input}
-use Rattle.filterset_language.proofs.StepsTakeText.{after_takes}
-use Rattle.filterset_language.proofs.EscapeReading.{no_escape}
+use Rattle.filterset_language.specs.{Parsing.Recovery.Found, declared.parsing.input.Input.Input}
+use Rattle.filterset_language.proofs.{StepsTakeText.after_takes, EscapeReading.no_escape}
 
 -- the end of a text
 pub size : (i : Input) → i.offset + length i.rest.now ≡ length i.text.now

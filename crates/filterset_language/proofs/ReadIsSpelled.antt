@@ -1,28 +1,25 @@
 -- What is read is spelled so.
 use Rattle.std.proofs.Common.{◌≡◌, ℕ, zero, suc, ◌+◌, ◌<◌, Bool, true, false, cond, List, [], ◌∷◌, ◌++◌, length, take, Some, None, refl, sym, ap, ◌∙◌, subst, arith, ⊎_elim}
 use Rattle.std.specs.Prelude.{codes, ◌==◌, Option}
-use Rattle.std.proofs.lemmas.Bool.{eqb-true}
-use Rattle.std.proofs.lemmas.List.{append-nil, take_at, nil_from_length}
-use Rattle.filterset_grammar.specs.Text.{Blanks, no_blank, ends_word}
-use Rattle.filterset_language.specs.Parsing.Position.{Position, position, skip, after}
-use Rattle.filterset_language.specs.Parsing.Words.{not_at, joiner_at, or_at, name_at}
-use Rattle.filterset_grammar.specs.Tree.{Not, Parens, Set}
-use Rattle.filterset_grammar.specs.declared.operators.Joiner.{Joiner}
-use Rattle.filterset_grammar.specs.declared.operators.Joiner.TheVariants.{Both, Without, ExactlyOne}
+use Rattle.std.proofs.lemmas.{Bool.eqb-true, List.append-nil, List.take_at, List.nil_from_length}
 use Rattle.filterset_grammar.specs.Grammar.{LeafText, not_text, or_text, join_text, not_ends, or_ends, join_ends, Basic, AndLevel, OrLevel, Spells}
-use Rattle.filterset_grammar.specs.Grammar as grammar
+use Rattle.filterset_grammar.specs.{Text.Blanks, Text.no_blank, Text.ends_word, Tree.Not, Tree.Parens, Tree.Set}
+use Rattle.filterset_grammar.specs.declared.operators.AndOperator.TheVariants.{LiteralAnd, Ampersand}
+use Rattle.filterset_grammar.specs.declared.operators.{DifferenceOperator.TheVariants.Minus, Joiner.Joiner}
+use Rattle.filterset_grammar.specs.declared.operators.Joiner.TheVariants.{Both, Without, ExactlyOne}
 use Rattle.filterset_grammar.specs.declared.operators.NotOperator.{NotOperator}
 use Rattle.filterset_grammar.specs.declared.operators.NotOperator.TheVariants.{LiteralNot, Exclamation}
 use Rattle.filterset_grammar.specs.declared.operators.OrOperator.{OrOperator}
 use Rattle.filterset_grammar.specs.declared.operators.OrOperator.TheVariants.{LiteralOr, Pipe, Plus}
-use Rattle.filterset_grammar.specs.declared.operators.AndOperator.TheVariants.{LiteralAnd, Ampersand}
-use Rattle.filterset_grammar.specs.declared.operators.DifferenceOperator.TheVariants.{Minus}
 use Rattle.filterset_grammar.specs.declared.operators.SymmetricDifferenceOperator.TheVariants.{Caret}
+use Rattle.filterset_language.specs.Parsing.Position.{Position, position, skip, after}
+use Rattle.filterset_language.specs.Parsing.Words.{not_at, joiner_at, or_at, name_at}
 use Rattle.filterset_language.specs.declared.parsing.names.PredicateName.{PredicateName}
 use Rattle.filterset_language.specs.Parsing.Descent.{Placed, ◌>>=◌, Reader, Next, Make, more, level_by, join, and_level_by, unite, or_level_by, leaf_at, set_at, operand_by, operand_at, nothing_behind, whole_by}
 use Rattle.filterset_language.proofs.SpelledIsNotEmpty.{basic_some, and_some}
 use Rattle.filterset_language.proofs.ReadLeavesAreSpelled.{leaf_takes}
 use Rattle.filterset_language.proofs.StepsTakeText.{bind_is, choose_is, is_some, Takes, Takes-then, skip_takes, after_takes, not_takes, JoinerTaken, joiner_takes, OrTaken, or_takes, name_takes}
+use Rattle.filterset_grammar.specs.Grammar as grammar
 
 -- which texts spell which trees; a text begins at the offset
 abbrev Spelling : Type 1

@@ -1,45 +1,35 @@
 -- A predicate that is read is spelled so.
 use Rattle.std.proofs.Common.{◌≡◌, ◌≢◌, ℕ, suc, ◌+◌, Bool, true, false, cond, List, [], ◌∷◌, ◌++◌, length, take, Option, Some, None, refl, sym, ap, ◌∙◌, subst, arith, append_assoc, length-append, length-take, ⊎_elim}
-use Rattle.std.specs.Prelude.{codes, chars, Result, Ok, Err}
-use Rattle.std.specs.Option.{option_map}
+use Rattle.std.specs.{Prelude.codes, Prelude.chars, Prelude.Result, Prelude.Ok, Prelude.Err, Option.option_map}
 use Rattle.std.proofs.lemmas.List.{take-append-drop, nil_from_length}
-use Rattle.filterset_faults.specs.Span.{span}
-use Rattle.filterset_faults.specs.declared.span.SourceSpan.{SourceSpan}
-use Rattle.filterset_glob.specs.Grammar.{GlobText}
-use Rattle.filterset_glob.specs.Reading.{reading}
-use Rattle.filterset_glob.specs.Tokens.{Tokens}
+use Rattle.filterset_faults.specs.{Span.span, declared.span.SourceSpan.SourceSpan}
+use Rattle.filterset_glob.specs.{Grammar.GlobText, Reading.reading, Tokens.Tokens}
 use Rattle.filterset_glob.specs.declared.fault.GlobConstructError.{GlobConstructError}
 use Rattle.filterset_glob.proofs.ReadIsSpelled.{glob_of_reading}
 use Rattle.filterset_graph.specs.declared.package.BuildPlatform.{BuildPlatform}
 use Rattle.filterset_grammar.specs.Text.{Blanks, no_blank, space, newline, return_newline, Spelled, WhiteSpace}
+use Rattle.filterset_grammar.specs.{Platforms.Names, Tree.Leaf, Tree.Matching, Tree.Platform, Tree.Default}
+use Rattle.filterset_grammar.specs.declared.predicate.Predicate.{Predicate}
+use Rattle.filterset_grammar.specs.Grammar.{Name, own_matching, matching_sign, Matches, begins_plainly, MatcherText, BehindMatcher, Call, LeafText}
+use Rattle.filterset_grammar.specs.declared.predicate.TextMatching.{TextMatching}
 use Rattle.filterset_language.specs.Parsing.Front.{blank_len, close_len, is_white}
 use Rattle.filterset_language.specs.Parsing.Position.{Position, position, skip, after, behind, advanced}
 use Rattle.filterset_language.specs.Parsing.RawTexts.{raw_at, body_at, TextTaken}
-use Rattle.filterset_language.specs.Parsing.Globs.{glob_by, glob_in}
-use Rattle.filterset_grammar.specs.Platforms.{Names}
-use Rattle.filterset_language.specs.Parsing.PlatformNames.{platform_in}
-use Rattle.filterset_language.specs.Parsing.Words.{name_text}
-use Rattle.filterset_matchers.specs.Matcher.{Matcher, Equal, Contains, Glob, Regex}
-use Rattle.filterset_grammar.specs.Tree as tree
-use Rattle.filterset_grammar.specs.Tree.{Leaf, Matching, Platform, Default}
-use Rattle.filterset_grammar.specs.declared.predicate.Predicate.{Predicate}
-use Rattle.filterset_language.specs.Faults.{EndsText}
-use Rattle.filterset_grammar.specs.Grammar.{Name, own_matching, matching_sign, Matches, begins_plainly, MatcherText, BehindMatcher, Call, LeafText}
-use Rattle.filterset_grammar.specs.Grammar as grammar
-use Rattle.filterset_grammar.specs.declared.predicate.TextMatching.{TextMatching}
-use Rattle.filterset_grammar.specs.declared.predicate.TextMatching.TheVariants as ways
-use Rattle.filterset_language.specs.declared.parsing.names.PredicateName.{PredicateName}
-use Rattle.filterset_language.specs.declared.parsing.names.PredicateName.TheVariants as names
+use Rattle.filterset_language.specs.Parsing.{Globs.glob_by, Globs.glob_in, PlatformNames.platform_in, Words.name_text}
+use Rattle.filterset_language.specs.{Faults.EndsText, declared.parsing.names.PredicateName.PredicateName}
 use Rattle.filterset_language.specs.Parsing.Descent.{◌>>=◌, regex_at, signed_or, made, signed_text, text_matcher_at, matcher_at, between, matching_at, platform_at, bare_end_at, bare_at, default_at, argument_at, leaf_at}
 use Rattle.filterset_language.proofs.Positions.{behind_some, one_blank, one_newline, skip_stop}
 use Rattle.filterset_language.proofs.WhiteSpaceTest.{white_from}
 use Rattle.filterset_language.proofs.ClosingParenthesis.{close_within, ends_stop}
-use Rattle.filterset_language.proofs.SpelledIsNotEmpty.{span_same}
-use Rattle.filterset_language.proofs.RawTexts.{text_takes}
-use Rattle.filterset_language.proofs.BodyReading.{regex_takes}
+use Rattle.filterset_language.proofs.{SpelledIsNotEmpty.span_same, RawTexts.text_takes, BodyReading.regex_takes}
 use Rattle.filterset_language.proofs.Trimming.{platform_takes}
 use Rattle.filterset_language.proofs.PlatformArguments.{names_before, with_blanks}
 use Rattle.filterset_language.proofs.StepsTakeText.{bind_is, choose_is, is_some, Takes, Takes-then, skip_takes, after_takes}
+use Rattle.filterset_matchers.specs.Matcher.{Matcher, Equal, Contains, Glob, Regex}
+use Rattle.filterset_grammar.specs.Tree as tree
+use Rattle.filterset_grammar.specs.Grammar as grammar
+use Rattle.filterset_grammar.specs.declared.predicate.TextMatching.TheVariants as ways
+use Rattle.filterset_language.specs.declared.parsing.names.PredicateName.TheVariants as names
 
 -- ---- what ends a text
 

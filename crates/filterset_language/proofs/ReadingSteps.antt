@@ -1,12 +1,10 @@
 -- One step of reading an expression.
 use Rattle.std.proofs.Common.{◌≡◌, ℕ, zero, suc, ◌<◌, ◌≤◌, List, length, Option, Some, None, true, refl, sym, ◌∙◌, subst, arith}
 use Rattle.std.specs.Prelude.{codes, is_some}
-use Rattle.filterset_grammar.specs.declared.operators.NotOperator.{NotOperator}
-use Rattle.filterset_language.specs.declared.parsing.names.PredicateName.{PredicateName}
-use Rattle.filterset_language.specs.Parsing.Recovery.{NoOperand}
+use Rattle.filterset_grammar.specs.{declared.operators.NotOperator.NotOperator, Tree.Not, Tree.Parens}
+use Rattle.filterset_language.specs.{declared.parsing.names.PredicateName.PredicateName, Parsing.Recovery.NoOperand}
 use Rattle.filterset_language.specs.Parsing.Position.{Position, position, skip, after}
 use Rattle.filterset_language.specs.Parsing.Words.{not_at, name_at}
-use Rattle.filterset_grammar.specs.Tree.{Not, Parens}
 use Rattle.filterset_language.specs.Parsing.Descent.{Placed, ◌>>=◌, Reader, Next, Make, operand_at, set_at, or_level_by, more}
 use Rattle.filterset_language.proofs.StepsTakeText.{after_takes}
 

@@ -1,12 +1,9 @@
 -- One step after another, of a reader that goes on after a fault.
 use Rattle.std.proofs.Common.{◌≡◌, ℕ, ◌+◌, ◌<◌, ◌≤◌, List, [], ◌∷◌, ◌++◌, length, false, Option, Some, None, Result, Ok, Err, refl, ap, ◌∙◌, subst, arith, ⊎_elim, length-append}
 use Rattle.std.specs.Prelude.{is_some, IfOk, MatchOption}
-use Rattle.std.proofs.lemmas.Bool.{cases_lt}
-use Rattle.std.proofs.lemmas.List.Elements.{All-append, All-cons, All-nil}
+use Rattle.std.proofs.lemmas.{Bool.cases_lt, List.Elements.All-append, List.Elements.All-cons, List.Elements.All-nil}
 use Rattle.filterset_faults.specs.declared.error.ParseSingleError.{ParseSingleError}
-use Rattle.filterset_language.specs.Parsing.Descent.{◌>>=◌}
-use Rattle.filterset_language.specs.Parsing.Escapes.{escape_at}
-use Rattle.filterset_language.specs.Parsing.Position.{Position, advanced}
+use Rattle.filterset_language.specs.Parsing.{Descent.◌>>=◌, Escapes.escape_at, Position.Position, Position.advanced}
 use Rattle.filterset_language.specs.Parsing.Recovery.{Recovers, Found, Keeps, Passes}
 use Rattle.filterset_language.specs.Parsing.Outcome.{Faults}
 

@@ -1,10 +1,7 @@
 -- The pattern of a body: each `\/` replaced by `/`.
 use Rattle.std.proofs.Common.{◌≡◌, ◌≢◌, ℕ, zero, suc, ◌+◌, ◌<◌, ◌≤◌, Bool, true, false, cond, eqb, List, [], ◌∷◌, ◌++◌, length, take, drop, Bor, refl, sym, ap, ◌∙◌, arith, ⊎_elim}
-use Rattle.std.specs.Prelude.{◌&&◌}
-use Rattle.std.specs.Str.Pattern.{FindsText}
-use Rattle.std.specs.Str.Replace.{ReplacesMatches}
-use Rattle.std.proofs.Math.Seq.{drop-nil}
-use Rattle.std.proofs.lemmas.Bool.{eqb-true}
+use Rattle.std.specs.{Prelude.◌&&◌, Str.Pattern.FindsText, Str.Replace.ReplacesMatches}
+use Rattle.std.proofs.{Math.Seq.drop-nil, lemmas.Bool.eqb-true}
 use Rattle.filterset_grammar.specs.Text.{with_slashes}
 
 -- an escaped slash stands at the front

@@ -1,13 +1,11 @@
 -- Spans by their ends, and texts that are not empty.
 use Rattle.std.proofs.Common.{◌≡◌, ℕ, ◌+◌, ◌-◌, ◌<◌, List, ◌∷◌, [], ◌++◌, length, refl, ap, arith, length-append}
-use Rattle.filterset_grammar.specs.Tree.{Leaf}
 use Rattle.filterset_grammar.specs.Grammar.{Call, LeafText, not_text, join_text, Basic, AndLevel}
+use Rattle.filterset_grammar.specs.{Tree.Leaf, declared.operators.NotOperator.NotOperator}
+use Rattle.filterset_grammar.specs.declared.operators.NotOperator.TheVariants.{LiteralNot, Exclamation}
 use Rattle.filterset_grammar.specs.Grammar as grammar
 use Rattle.filterset_language.specs.Parsing.Descent.{Placed, between}
-use Rattle.filterset_faults.specs.Span.{span}
-use Rattle.filterset_faults.specs.declared.span.SourceSpan.{SourceSpan}
-use Rattle.filterset_grammar.specs.declared.operators.NotOperator.{NotOperator}
-use Rattle.filterset_grammar.specs.declared.operators.NotOperator.TheVariants.{LiteralNot, Exclamation}
+use Rattle.filterset_faults.specs.{Span.span, declared.span.SourceSpan.SourceSpan}
 
 -- a span, by its length and its end
 pub span_same : (a b c : ℕ) → a + b ≡ c → between a c ≡ span a b

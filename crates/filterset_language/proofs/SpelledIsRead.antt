@@ -4,17 +4,10 @@ use Rattle.std.specs.Prelude.{codes}
 use Rattle.std.proofs.lemmas.List.{append-nil}
 use Rattle.filterset_faults.specs.declared.span.SourceSpan.{SourceSpan}
 use Rattle.filterset_grammar.specs.Text.{Blanks, no_blank, space, newline, return_newline, ends_word}
-use Rattle.filterset_language.specs.Parsing.Front.{blank_len}
-use Rattle.filterset_language.specs.Parsing.Position.{Position, position, skip, skip_from, behind}
-use Rattle.filterset_language.specs.Parsing.Words.{choose, not_at, joiner_at, or_at, name_at}
-use Rattle.filterset_grammar.specs.declared.predicate.Predicate.TheVariants as predicates
-use Rattle.filterset_grammar.specs.Tree.{Leaf, Union, Join, Set}
-use Rattle.filterset_grammar.specs.declared.operators.Joiner.{Joiner}
+use Rattle.filterset_grammar.specs.{Tree.Leaf, Tree.Union, Tree.Join, Tree.Set, declared.operators.Joiner.Joiner}
 use Rattle.filterset_grammar.specs.declared.operators.Joiner.TheVariants.{Both, Without, ExactlyOne}
 use Rattle.filterset_grammar.specs.declared.predicate.Predicate.{Predicate}
-use Rattle.filterset_grammar.specs.Grammar as grammar
 use Rattle.filterset_grammar.specs.Grammar.{Name, LeafText, not_text, or_text, join_text, not_ends, or_ends, join_ends, Basic, AndLevel, OrLevel, Spells}
-use Rattle.filterset_language.specs.Parsing.Descent.{Placed, ◌>>=◌, Reader, Next, Make, leaf_at, set_at, join, unite, more, level_by, and_level_by, or_level_by, operand_by, operand_at, whole_by}
 use Rattle.filterset_grammar.specs.declared.operators.NotOperator.{NotOperator}
 use Rattle.filterset_grammar.specs.declared.operators.NotOperator.TheVariants.{LiteralNot, Exclamation}
 use Rattle.filterset_grammar.specs.declared.operators.OrOperator.{OrOperator}
@@ -22,12 +15,17 @@ use Rattle.filterset_grammar.specs.declared.operators.OrOperator.TheVariants.{Li
 use Rattle.filterset_grammar.specs.declared.operators.AndOperator.TheVariants.{LiteralAnd, Ampersand}
 use Rattle.filterset_grammar.specs.declared.operators.DifferenceOperator.TheVariants.{Minus}
 use Rattle.filterset_grammar.specs.declared.operators.SymmetricDifferenceOperator.TheVariants.{Caret}
+use Rattle.filterset_language.specs.Parsing.Front.{blank_len}
+use Rattle.filterset_language.specs.Parsing.Position.{Position, position, skip, skip_from, behind}
+use Rattle.filterset_language.specs.Parsing.Words.{choose, not_at, joiner_at, or_at, name_at}
+use Rattle.filterset_language.specs.Parsing.Descent.{Placed, ◌>>=◌, Reader, Next, Make, leaf_at, set_at, join, unite, more, level_by, and_level_by, or_level_by, operand_by, operand_at, whole_by}
 use Rattle.filterset_language.specs.declared.parsing.names.PredicateName.{PredicateName}
-use Rattle.filterset_language.proofs.Positions.{skip_again}
-use Rattle.filterset_language.proofs.StepsTakeText.{is_some}
+use Rattle.filterset_language.proofs.{Positions.skip_again, StepsTakeText.is_some}
 use Rattle.filterset_language.proofs.ReadingSteps.{less, loop_turns, more_ends}
 use Rattle.filterset_language.proofs.SpelledLeavesAreRead.{byte_stop, open_stop, close_stop, close_again, call_text, leaf_again}
 use Rattle.filterset_language.proofs.SpelledIsNotEmpty.{not_some, basic_some, and_some}
+use Rattle.filterset_grammar.specs.declared.predicate.Predicate.TheVariants as predicates
+use Rattle.filterset_grammar.specs.Grammar as grammar
 
 -- ---- operators
 

@@ -1,35 +1,27 @@
 -- A predicate that is spelled is read.
 use Rattle.std.proofs.Common.{◌≡◌, ◌≢◌, ℕ, ◌+◌, Bool, true, false, cond, eqb, List, [], ◌∷◌, ◌++◌, length, take, drop, Option, Some, None, refl, sym, ap, ◌∙◌, subst, arith, append_assoc, length-append}
 use Rattle.std.specs.Prelude.{codes, ◌&&◌, ◌||◌}
-use Rattle.std.proofs.lemmas.Bool.{eqb-true, ne_eqb}
-use Rattle.std.proofs.lemmas.List.{take_at, drop_at}
+use Rattle.std.proofs.lemmas.{Bool.eqb-true, Bool.ne_eqb, List.take_at, List.drop_at}
 use Rattle.filterset_glob.proofs.SpelledIsRead.{reading_of_glob}
 use Rattle.filterset_graph.specs.declared.package.BuildPlatform.{BuildPlatform}
-use Rattle.filterset_faults.specs.Span.{span}
-use Rattle.filterset_faults.specs.declared.span.SourceSpan.{SourceSpan}
+use Rattle.filterset_faults.specs.{Span.span, declared.span.SourceSpan.SourceSpan}
 use Rattle.filterset_grammar.specs.Text.{Blanks, no_blank, space, newline, return_newline, Spelled, WhiteSpace}
-use Rattle.filterset_language.specs.Parsing.Front.{blank_len}
-use Rattle.filterset_language.specs.Faults.{closed, at_close}
-use Rattle.filterset_language.specs.Parsing.Position.{Position, position, skip, after, behind}
-use Rattle.filterset_grammar.specs.Platforms.{Names}
-use Rattle.filterset_language.specs.Parsing.RawTexts.{raw_at}
-use Rattle.filterset_language.specs.Parsing.Words.{name_at}
-use Rattle.filterset_matchers.specs.Matcher.{Matcher}
-use Rattle.filterset_grammar.specs.Tree as tree
-use Rattle.filterset_grammar.specs.declared.predicate.Predicate.TheVariants as predicates
-use Rattle.filterset_grammar.specs.declared.predicate.TextMatching.{TextMatching}
-use Rattle.filterset_grammar.specs.declared.predicate.TextMatching.TheVariants as ways
-use Rattle.filterset_grammar.specs.Tree.{Leaf, Matching, Platform}
-use Rattle.filterset_grammar.specs.declared.predicate.Predicate.{Predicate}
-use Rattle.filterset_grammar.specs.Grammar as grammar
+use Rattle.filterset_grammar.specs.{Platforms.Names, declared.predicate.TextMatching.TextMatching}
+use Rattle.filterset_grammar.specs.{Tree.Leaf, Tree.Matching, Tree.Platform, declared.predicate.Predicate.Predicate}
 use Rattle.filterset_grammar.specs.Grammar.{Name, own_matching, matching_sign, Matches, begins_plainly, MatcherText, regex, signed, implicit, BehindMatcher, Call, LeafText}
+use Rattle.filterset_language.specs.{Parsing.Front.blank_len, Faults.closed, Faults.at_close}
+use Rattle.filterset_language.specs.Parsing.Position.{Position, position, skip, after, behind}
+use Rattle.filterset_language.specs.Parsing.{RawTexts.raw_at, Words.name_at}
 use Rattle.filterset_language.specs.Parsing.Descent.{◌>>=◌, made, signed_text, matcher_at, between, matching_at, platform_at, bare_end_at, bare_at, default_at, leaf_at}
 use Rattle.filterset_language.proofs.Positions.{skip_stop, skip_again}
 use Rattle.filterset_language.proofs.WhiteSpaceTest.{white_to, white_close}
-use Rattle.filterset_language.proofs.RawTexts.{text_again}
-use Rattle.filterset_language.proofs.BodyReading.{regex_again}
-use Rattle.filterset_language.proofs.PlatformArguments.{argument_again}
+use Rattle.filterset_language.proofs.{RawTexts.text_again, BodyReading.regex_again, PlatformArguments.argument_again}
 use Rattle.filterset_language.proofs.SpelledIsNotEmpty.{span_same, call_length}
+use Rattle.filterset_matchers.specs.Matcher.{Matcher}
+use Rattle.filterset_grammar.specs.Tree as tree
+use Rattle.filterset_grammar.specs.declared.predicate.Predicate.TheVariants as predicates
+use Rattle.filterset_grammar.specs.declared.predicate.TextMatching.TheVariants as ways
+use Rattle.filterset_grammar.specs.Grammar as grammar
 
 -- ---- blanks
 

@@ -1,29 +1,25 @@
 -- Steps that took a piece of a text.
 use Rattle.std.proofs.Common.{◌≡◌, ℕ, ◌+◌, Bool, true, false, cond, eqb, List, [], ◌∷◌, ◌++◌, length, Option, Some, None, refl, sym, ap, ◌∙◌, subst, arith, append_assoc, length-append, inl, inr, ⊎_elim, ◌⊎◌}
-use Rattle.std.specs.Prelude.{codes, ◌&&◌, ◌||◌}
 use Rattle.std.proofs.lemmas.Bool.Decides.{eqb_tells}
-use Rattle.std.specs.Option.{option_map, option_and_then}
+use Rattle.std.specs.{Option.option_map, Option.option_and_then, Prelude.codes, Prelude.◌&&◌, Prelude.◌||◌}
 pub use Rattle.std.proofs.lemmas.Option.{same_Some as is_some}
 use Rattle.filterset_language.specs.Parsing.Front.{blank_len}
-use Rattle.filterset_grammar.specs.Text.{ends_word}
 use Rattle.filterset_language.specs.Parsing.Position.{Position, position, skip_from, after, after_word, behind, if_ends}
 use Rattle.filterset_language.specs.Parsing.Words.{choose, not_at, joiner_at, or_at, first_byte, named, either, name_at, name_text}
 use Rattle.filterset_language.specs.Faults.{InvalidAnd, ampersands, capital_and, InvalidOr, pipes, capital_or}
-use Rattle.filterset_grammar.specs.Text.{Blanks, no_blank, space, newline, return_newline}
+use Rattle.filterset_language.specs.{declared.parsing.names.PredicateName.PredicateName, Parsing.Descent.◌>>=◌}
 use Rattle.filterset_grammar.specs.Grammar.{not_text, join_text, or_text, not_ends, join_ends, or_ends}
-use Rattle.filterset_grammar.specs.declared.operators.Joiner.{Joiner}
+use Rattle.filterset_grammar.specs.Text.{ends_word, Blanks, no_blank, space, newline, return_newline}
+use Rattle.filterset_grammar.specs.declared.operators.AndOperator.TheVariants.{LiteralAnd, Ampersand}
+use Rattle.filterset_grammar.specs.declared.operators.{DifferenceOperator.TheVariants.Minus, Joiner.Joiner}
 use Rattle.filterset_grammar.specs.declared.operators.Joiner.TheVariants.{Both, Without, ExactlyOne}
 use Rattle.filterset_grammar.specs.declared.operators.NotOperator.{NotOperator}
 use Rattle.filterset_grammar.specs.declared.operators.NotOperator.TheVariants.{LiteralNot, Exclamation}
 use Rattle.filterset_grammar.specs.declared.operators.OrOperator.{OrOperator}
 use Rattle.filterset_grammar.specs.declared.operators.OrOperator.TheVariants.{LiteralOr, Pipe, Plus}
-use Rattle.filterset_grammar.specs.declared.operators.AndOperator.TheVariants.{LiteralAnd, Ampersand}
-use Rattle.filterset_grammar.specs.declared.operators.DifferenceOperator.TheVariants.{Minus}
 use Rattle.filterset_grammar.specs.declared.operators.SymmetricDifferenceOperator.TheVariants.{Caret}
 use Rattle.filterset_grammar.specs.declared.predicate.Predicate.TheVariants as matching
-use Rattle.filterset_language.specs.declared.parsing.names.PredicateName.{PredicateName}
 use Rattle.filterset_language.specs.declared.parsing.names.PredicateName.TheVariants as names
-use Rattle.filterset_language.specs.Parsing.Descent.{◌>>=◌}
 
 -- ---- steps that gave something
 

@@ -1,20 +1,17 @@
 -- A platform's name with white space round it is what trims to the name.
 use Rattle.std.proofs.Common.{◌≡◌, ℕ, Bool, true, false, cond, eqb, List, [], ◌∷◌, ◌++◌, length, Option, Some, None, refl, sym, ap, ◌∙◌, arith, IsUtf8}
-use Rattle.std.specs.Prelude.{All, encode_utf8_all, codes, ◌&&◌}
-use Rattle.std.specs.Char.{is_whitespace}
+use Rattle.std.specs.{Prelude.All, Prelude.encode_utf8_all, Prelude.codes, Prelude.◌&&◌, Char.is_whitespace}
 use Rattle.std.specs.Str.{is_utf8, bytes_eq, trim, trim_start, trim_end, skip_leading_whitespace, drop_trailing_whitespace}
-use lib.Utf8.{encode, scalar, scalars}
-use Rattle.std.proofs.lemmas.Bool.{and_from, and_parts, eqb-true}
-use Rattle.std.proofs.lemmas.List.{append-nil}
+use Rattle.std.proofs.lemmas.{Bool.and_from, Bool.and_parts, Bool.eqb-true, List.append-nil}
 use Rattle.std.proofs.lemmas.List.Elements.{All-cons, All-nil, All-tail, All-head}
 use Rattle.std.proofs.lemmas.Slice.Eq.{bytes_eq-Decides}
 use Rattle.std.proofs.lemmas.Str.{chars-encodes, encodes-append, IsUtf8-from_is_utf8, is_utf8-from_IsUtf8}
+use lib.Utf8.{encode, scalar, scalars}
 use Rattle.filterset_grammar.specs.Platforms.{Names}
 use Rattle.filterset_language.specs.Parsing.PlatformNames.{platform_from, platform_in}
-use Rattle.filterset_graph.specs.Platforms.{platform_text}
-use Rattle.filterset_graph.specs.declared.package.BuildPlatform.{BuildPlatform}
-use Rattle.filterset_graph.specs.declared.package.BuildPlatform.TheVariants.{Target, Host}
 use Rattle.filterset_language.proofs.WhiteSpaceTest.{IsWhite, white_skipped, white_scalars}
+use Rattle.filterset_graph.specs.Platforms.{platform_text}
+use Rattle.filterset_graph.specs.declared.package.BuildPlatform.{BuildPlatform, TheVariants.Target, TheVariants.Host}
 
 -- ---- what names a platform is trimmed to its name
 

@@ -3,8 +3,7 @@ use Rattle.std.proofs.Common.{◌≡◌, ◌≢◌, ℕ, suc, true, false, Bool,
 use Rattle.std.specs.Prelude.{All, IsTrue, ◌&&◌, chars, encode_utf8, encode_utf8_all}
 use Rattle.std.specs.Char.{IsScalar, is_whitespace, is_not_whitespace}
 use Rattle.std.specs.Str.{is_utf8, all_scalars, skip_leading_whitespace, trim_start, NonePass}
-use Rattle.std.proofs.lemmas.Bool.{and_parts as both_true, ne_eqb, eqb-true}
-use Rattle.std.proofs.lemmas.Bool.Decides.{nat_tests}
+use Rattle.std.proofs.lemmas.Bool.{and_parts as both_true, ne_eqb, eqb-true, Decides.nat_tests}
 use Rattle.std.proofs.lemmas.List.{append-nil}
 use Rattle.std.proofs.lemmas.List.Elements.{All-cons, All-nil, All-head, All-tail, All-from_get_or}
 use Rattle.std.proofs.lemmas.Str.{chars-encodes, IsUtf8-from_is_utf8, is_utf8-from_IsUtf8, length-encode, len_utf8_bounds, NoCharPasses-byte}

@@ -1,26 +1,22 @@
 -- The end of a text that was read whole.
 use Rattle.std.proofs.Common.{◌≡◌, ◌≢◌, ℕ, suc, ◌+◌, ◌<◌, true, false, List, [], ◌∷◌, ◌++◌, length, Option, Some, None, ◌⊎◌, inl, inr, refl, sym, ap, ◌∙◌, subst, arith, length-append}
-use Rattle.std.specs.Prelude.{All, ◌==◌}
-use Rattle.std.specs.Option.{option_map}
-use Rattle.std.proofs.lemmas.List.{append-nil}
+use Rattle.std.proofs.lemmas.{Bool.ne_eqb, List.append-nil}
 use Rattle.std.proofs.lemmas.List.Elements.{All-append, All-nil, All-cons, All-head, All-tail}
-use Rattle.std.proofs.lemmas.Bool.{ne_eqb}
+use Rattle.std.specs.{Option.option_map, Prelude.All, Prelude.◌==◌}
 use Rattle.filterset_grammar.specs.Text.{Blanks}
 use Rattle.filterset_language.specs.Parsing.Position.{Position, position, position_of, skip, skip_from}
-use Rattle.filterset_language.specs.Faults.{FaultStands}
-use Rattle.filterset_language.specs.Parsed.{LiesOnBody}
+use Rattle.filterset_language.specs.{Faults.FaultStands, Parsed.LiesOnBody}
 use Rattle.filterset_language.specs.Parsing.Descent.{Placed, operand_at, or_level_by, whole_by}
 use Rattle.filterset_language.specs.Parsing.Recovery.{Found, AllFound}
 use Rattle.filterset_language.specs.Parsing.Outcome.{Faults, GivesTree, comes, refused, reads, fails}
-use Rattle.filterset_faults.specs.Span.{span, offset_of}
 use Rattle.filterset_language.specs.Parsing.Whole.{Wholly, WhollyRead, WhollyRefused, ReadUpTo}
 use Rattle.filterset_language.specs.declared.parsing.input.Input.{Input}
-use Rattle.filterset_faults.specs.declared.span.SourceSpan.{SourceSpan}
-use Rattle.filterset_faults.specs.declared.error.ParseSingleError.{ParseSingleError}
-use Rattle.filterset_faults.specs.declared.error.ParseSingleError.TheVariants.{ExpectedEndOfExpression}
 use Rattle.filterset_language.proofs.Positions.{skip_again}
 use Rattle.filterset_language.proofs.RawTextFaults.{size, begins_here, rest_ends}
 use Rattle.filterset_language.proofs.StepsTakeText.{is_some}
+use Rattle.filterset_faults.specs.Span.{span, offset_of}
+use Rattle.filterset_faults.specs.declared.{span.SourceSpan.SourceSpan, error.ParseSingleError.ParseSingleError}
+use Rattle.filterset_faults.specs.declared.error.ParseSingleError.TheVariants.{ExpectedEndOfExpression}
 
 end_found : (i : Input) (s : Position) → s ≡ skip (position_of i) → s.rest ≢ [] → FaultStands i.text.now (ExpectedEndOfExpression (span i.offset (length i.rest.now)))
 end_found i s skipped some = record {

@@ -1,28 +1,22 @@
 -- What is true of a text where a fault is reported.
 use Rattle.std.specs.Prelude.{◌≡◌, ◌≢◌, ℕ, ◌+◌, ◌≤◌, min, List, [], ◌∷◌, ◌++◌, take, drop, codes, chars, All, IfSome, Option, Some, None, IsCharBoundary, ◌⊎◌}
-use Rattle.std.specs.Prelude as std
 use Rattle.std.specs.List.{Contains}
-use Rattle.filterset_grammar.specs.Text.{Blanks, WhiteSpace, Escape, Spelled, Body}
-use Rattle.filterset_grammar.specs.Bans.{ban_reason}
-use Rattle.filterset_grammar.specs.Tree as tree
+use Rattle.std.specs.Prelude as std
+use Rattle.filterset_grammar.specs.{Text.Blanks, Text.WhiteSpace, Text.Escape, Text.Spelled, Text.Body, Bans.ban_reason}
 use Rattle.filterset_grammar.specs.Tree.{Leaf, Tree, Matching, Platform, Default, leaf_without_span, tree_leaves}
-use Rattle.filterset_grammar.specs.declared.operators.Joiner.{Joiner}
-use Rattle.filterset_grammar.specs.declared.predicate.Predicate.{Predicate}
+use Rattle.filterset_grammar.specs.declared.{operators.Joiner.Joiner, predicate.Predicate.Predicate}
 use Rattle.filterset_grammar.specs.declared.predicate.Predicate.TheVariants.{Package, Deps, Rdeps, Binary, BinaryId, Group}
 use Rattle.filterset_grammar.specs.Platforms.{Names}
 use Rattle.filterset_grammar.specs.Grammar.{Name, not_text, not_ends, or_text, join_text, Spells}
+use Rattle.filterset_grammar.specs.declared.operators.{NotOperator.NotOperator, OrOperator.OrOperator}
+use Rattle.filterset_grammar.specs.Tree as tree
 use Rattle.filterset_glob.specs.Faults as glob
-use Rattle.filterset_glob.specs.Grammar.{GlobText}
-use Rattle.filterset_glob.specs.Signs.{sign}
-use Rattle.filterset_glob.specs.Tokens.{Tokens}
+use Rattle.filterset_glob.specs.{Grammar.GlobText, Signs.sign, Tokens.Tokens}
 use Rattle.filterset_faults.specs.Faults.{span_of}
-use Rattle.filterset_faults.specs.declared.span.SourceSpan.{SourceSpan}
+use Rattle.filterset_faults.specs.declared.{span.SourceSpan.SourceSpan, error.ParseSingleError.ParseSingleError}
+use Rattle.filterset_faults.specs.declared.error.ParseSingleError.TheVariants.{InvalidGlob, BannedPredicate, InvalidRegexWithoutMessage, ExpectedCloseRegex, InvalidOrOperator, InvalidAndOperator, UnexpectedArgument, UnexpectedComma, InvalidString, ExpectedOpenParenthesis, ExpectedCloseParenthesis, InvalidEscapeCharacter, ExpectedExpr, ExprFoundBinaryOp, ExprFoundUnaryOp, ExpectedEndOfExpression, NoPackageMatch, NoGroupMatch, NoBinaryIdMatch, NoBinaryNameMatch, InvalidPlatformArgument, UnsupportedExpression, Unknown}
 use Rattle.filterset_graph.specs.declared.package.BuildPlatform.{BuildPlatform}
 use Rattle.filterset_matchers.specs.Pattern.{MayBeRejected}
-use Rattle.filterset_grammar.specs.declared.operators.NotOperator.{NotOperator}
-use Rattle.filterset_grammar.specs.declared.operators.OrOperator.{OrOperator}
-use Rattle.filterset_faults.specs.declared.error.ParseSingleError.{ParseSingleError}
-use Rattle.filterset_faults.specs.declared.error.ParseSingleError.TheVariants.{InvalidGlob, BannedPredicate, InvalidRegexWithoutMessage, ExpectedCloseRegex, InvalidOrOperator, InvalidAndOperator, UnexpectedArgument, UnexpectedComma, InvalidString, ExpectedOpenParenthesis, ExpectedCloseParenthesis, InvalidEscapeCharacter, ExpectedExpr, ExprFoundBinaryOp, ExprFoundUnaryOp, ExpectedEndOfExpression, NoPackageMatch, NoGroupMatch, NoBinaryIdMatch, NoBinaryNameMatch, InvalidPlatformArgument, UnsupportedExpression, Unknown}
 
 -- ---- a span of a text
 

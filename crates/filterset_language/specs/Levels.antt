@@ -1,6 +1,5 @@
 -- For the proof that parentheses are added correctly: the level that an operand must have, and what it becomes there.
-use Rattle.filterset_grammar.specs.Tree.{Tree}
-use Rattle.filterset_grammar.specs.Printing.{IsBasic, IsNoUnion}
+use Rattle.filterset_grammar.specs.{Tree.Tree, Printing.IsBasic, Printing.IsNoUnion}
 use Rattle.filterset_grammar.specs.AddedParens.{IsEnclosedUnless, IsWithParens}
 use Rattle.filterset_language.specs.declared.tree.parens.Level.{Level}
 use Rattle.filterset_language.specs.declared.tree.parens.Level.TheVariants.{Basic, And, Or}

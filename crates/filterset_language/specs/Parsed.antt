@@ -1,22 +1,14 @@
 -- What parsing a text returns.
 use Rattle.std.specs.Prelude.{◌≡◌, ◌≢◌, ℕ, ◌+◌, List, [], All, Some, None}
-use Rattle.std.specs.List.{Contains}
-use Rattle.std.specs.Option.{option_map}
-use Rattle.filterset_grammar.specs.Text.{Body}
-use Rattle.filterset_matchers.specs.Matcher.{Regex}
-use Rattle.filterset_matchers.specs.Pattern.{MayBeRejected, MayBeTooLarge}
-use Rattle.filterset_grammar.specs.Tree.{Matching, Tree, tree_leaves}
-use Rattle.filterset_grammar.specs.declared.predicate.Predicate.{Predicate}
-use Rattle.filterset_language.specs.Views.{tree_of}
-use Rattle.filterset_grammar.specs.Grammar.{Spells}
-use Rattle.filterset_grammar.specs.Patterns.{PatternsAreRead}
-use Rattle.filterset_language.specs.Faults.{piece, FaultStands}
-use Rattle.filterset_faults.specs.declared.span.SourceSpan.{SourceSpan}
-use Rattle.filterset_faults.specs.declared.error.ParseSingleError.{ParseSingleError}
-use Rattle.filterset_faults.specs.declared.error.ParseSingleError.TheVariants.{InvalidRegexWithoutMessage}
-use Rattle.filterset_language.specs.declared.parsing.parse.Parsed.{Parsed}
-use Rattle.filterset_language.specs.declared.parsing.parse.ParseStop.{ParseStop}
+use Rattle.std.specs.{List.Contains, Option.option_map}
+use Rattle.filterset_grammar.specs.{Text.Body, Tree.Matching, Tree.Tree, Tree.tree_leaves}
+use Rattle.filterset_grammar.specs.{declared.predicate.Predicate.Predicate, Grammar.Spells, Patterns.PatternsAreRead}
+use Rattle.filterset_matchers.specs.{Matcher.Regex, Pattern.MayBeRejected, Pattern.MayBeTooLarge}
+use Rattle.filterset_language.specs.{Views.tree_of, Faults.piece, Faults.FaultStands}
+use Rattle.filterset_language.specs.declared.parsing.parse.{Parsed.Parsed, ParseStop.ParseStop}
 use Rattle.filterset_language.specs.declared.parsing.parse.ParseStop.TheVariants.{Faults, OutOfMemory}
+use Rattle.filterset_faults.specs.declared.{span.SourceSpan.SourceSpan, error.ParseSingleError.ParseSingleError}
+use Rattle.filterset_faults.specs.declared.error.ParseSingleError.TheVariants.{InvalidRegexWithoutMessage}
 
 -- the text spells the tree, and the grammar of `regex` reads each of its patterns
 pub record Reads (text : List ℕ) (e : Tree SourceSpan) : Type 0 where

@@ -1,14 +1,12 @@
 -- Trees as contracts see them, without the places of their parts in memory.
-use Rattle.std.specs.Prelude.{◌≡◌, Bool}
-use Rattle.std.specs.Fn.{Shared, FnReturnsAt}
+use Rattle.std.specs.{Prelude.◌≡◌, Prelude.Bool, Fn.Shared, Fn.FnReturnsAt}
 use denote.Ref.{Bor}
 use Rattle.filterset_matchers.specs.Matchers.{matcher_of}
 use Rattle.filterset_grammar.specs.Tree.{Leaf, Matching, Platform, Default, All, None, Tree, Not, Union, Join, Parens, Set}
 use Rattle.filterset_grammar.specs.declared.operators.Joiner.TheVariants.{Both, Without, ExactlyOne}
 use Rattle.filterset_grammar.specs.declared.predicate.Predicate.TheVariants.{Package, Deps, Rdeps, Kind, Binary, BinaryId, Test, Group}
-use Rattle.filterset_language.specs.declared.tree.ParsedLeaf.{ParsedLeaf}
+use Rattle.filterset_language.specs.declared.tree.{ParsedLeaf.ParsedLeaf, ParsedExpr.ParsedExpr}
 use Rattle.filterset_language.specs.declared.tree.ParsedLeaf.TheVariants as leaves
-use Rattle.filterset_language.specs.declared.tree.ParsedExpr.{ParsedExpr}
 use Rattle.filterset_language.specs.declared.tree.ParsedExpr.TheVariants as exprs
 
 -- a `ParsedLeaf` as the predicate that it stands for

@@ -1,10 +1,8 @@
 //! The laws of the language. Each is the contract of a function that does nothing and takes no memory.
 ghost use Rattle.std.specs.Prelude.{◌≡◌, ◌↔◌, ℕ, List};
-ghost use Rattle.filterset_grammar.specs.Tree.{Tree, SameTree};
+ghost use Rattle.filterset_grammar.specs.{Tree.Tree, Tree.SameTree, Grammar.Spells};
+ghost use Rattle.filterset_grammar.specs.{Printing.printed, Printing.WellFormed, AddedParens.IsWithParens};
 ghost use Rattle.filterset_language.specs.Views.{tree_of};
-ghost use Rattle.filterset_grammar.specs.Grammar.{Spells};
-ghost use Rattle.filterset_grammar.specs.Printing.{printed, WellFormed};
-ghost use Rattle.filterset_grammar.specs.AddedParens.{IsWithParens};
 ghost use Rattle.filterset_faults.specs.declared.span.SourceSpan.{SourceSpan};
 
 use crate::tree::ParsedExpr;

@@ -4,24 +4,21 @@ use Rattle.std.specs.Prelude.{zip}
 use Rattle.filterset_expression.specs.Connectives.{kleene, kleene_not}
 use Rattle.filterset_expression.specs.Formula.{Compound, Negation, SameShape}
 use Rattle.filterset_expression.specs.Expression.{CompiledLeaf, formula}
-use Rattle.filterset_expression.specs.Formula as formulas
 use Rattle.filterset_expression.specs.Meaning.{IsCompiled, IsCompiledLeaf, tree_formula}
 use Rattle.filterset_expression.specs.declared.expression.CompiledExpr.{CompiledExpr}
-use Rattle.filterset_expression.specs.declared.logic.Connective.{Connective}
-use Rattle.filterset_expression.specs.declared.logic.Connective.TheVariants.{Conjunction}
+use Rattle.filterset_expression.specs.declared.logic.Connective.{Connective, TheVariants.Conjunction}
+use Rattle.filterset_expression.specs.Formula as formulas
 use Rattle.filterset_faults.specs.declared.span.SourceSpan.{SourceSpan}
 use Rattle.filterset_grammar.specs.Tree.{Tree, Not, Union, Join, Parens, Set}
 use Rattle.filterset_grammar.specs.declared.operators.DifferenceOperator.{DifferenceOperator}
 use Rattle.filterset_grammar.specs.declared.operators.Joiner.TheVariants.{Without}
-use Rattle.filterset_grammar.specs.declared.operators.NotOperator.{NotOperator}
-use Rattle.filterset_grammar.specs.declared.operators.NotOperator.TheVariants.{LiteralNot}
+use Rattle.filterset_grammar.specs.declared.operators.NotOperator.{NotOperator, TheVariants.LiteralNot}
 use Rattle.filterset_graph.specs.declared.package.PackageMetadata.{PackageMetadata}
 use Rattle.filterset_listing.specs.Operands.{left_of, negated_by, right_of}
 use Rattle.filterset_listing.proofs.ValueLemmas.{compound_value, negated_alike, negation_value, operands_alike, parens_value}
 use Rattle.filterset_listing.specs.Columns.{values_of, first_of, second_of, Fits, IsConnected}
 use Rattle.filterset_listing.specs.SubjectValues.{Basis, HasColumn}
-use Rattle.filterset_listing.specs.declared.columns.Columns.{Columns}
-use Rattle.filterset_listing.specs.declared.subjects.Subject.{Subject}
+use Rattle.filterset_listing.specs.declared.{columns.Columns.Columns, subjects.Subject.Subject}
 
 module _ (basis : Basis) where
   -- ---- values

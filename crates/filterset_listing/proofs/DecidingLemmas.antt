@@ -1,8 +1,6 @@
 -- Which subjects an operand may decide, and which constants change nothing in its place.
 use Rattle.std.proofs.Common.{◌≡◌, ◌↔◌, Bool, true, false, List, [], ◌∷◌, refl, Option, Some, None}
-use Rattle.std.specs.Prelude.{◌&&◌, not, cond, All}
-use Rattle.std.specs.Bool.{IsTrue}
-use Rattle.std.specs.List.{AllZip}
+use Rattle.std.specs.{Prelude.◌&&◌, Prelude.not, Prelude.cond, Prelude.All, Bool.IsTrue, List.AllZip}
 use Rattle.std.proofs.lemmas.Bool.{false≢true, and_parts, and_from}
 use Rattle.std.proofs.lemmas.List.Elements.{All-nil, All-cons, All-head, All-tail}
 use Rattle.filterset_faults.specs.declared.span.SourceSpan.{SourceSpan}

@@ -1,26 +1,19 @@
 -- Whether two filtersets may differ on a list, by how they differ on each binary.
 use Rattle.std.proofs.Common.{◌≡◌, ◌∙◌, ◌⊎◌, ℕ, zero, suc, Bool, List, [], ◌∷◌, ◌++◌, Option, Some, length, map, ap, refl, sym, subst, inl, inr, true, false, arith}
 use Rattle.std.specs.Prelude.{◌↔◌, ◌&&◌, ◌||◌, ◌==◌, IsTrue, is_none, not}
-use Rattle.std.specs.Borrow.{Bor}
-use Rattle.std.specs.List.{AllZip, Any, list_any}
+use Rattle.std.specs.{Borrow.Bor, List.AllZip, List.Any, List.list_any}
 use Rattle.std.proofs.Math.Bool.{or-true}
-use Rattle.std.proofs.lemmas.Bool.Decides.{nat_tests}
-use Rattle.std.proofs.lemmas.Bool.{false≢true, or_cases, or_parts}
+use Rattle.std.proofs.lemmas.Bool.{Decides.nat_tests, false≢true, or_cases, or_parts}
 use Rattle.filterset_expression.specs.declared.query.BinaryQuery.{BinaryQuery}
 use Rattle.filterset_listing.specs.Asking.{Text}
 use Rattle.filterset_listing.specs.Comparing.{Divides, IsBinaryDifference, IsUnknownOn, MayDifferOn, TellsDifference, TellsUnknown, is_of}
-use Rattle.filterset_listing.specs.ComparisonText.{differs, has_unknown}
-use Rattle.filterset_listing.specs.Groups.{known_of}
-use Rattle.filterset_listing.specs.Listing.{one_of}
-use Rattle.filterset_listing.specs.Pickers.{Answers, Picker}
-use Rattle.filterset_listing.specs.declared.binary.AskedBinary.{AskedBinary}
-use Rattle.filterset_listing.specs.declared.comparing.BinaryDifference.{BinaryDifference}
-use Rattle.filterset_listing.specs.declared.groups.TestAnswer.{TestAnswer}
-use Rattle.filterset_listing.specs.declared.groups.TestAnswer.TheVariants as answers
-use Rattle.filterset_listing.specs.declared.groups.TestAnswer.TheVariants.{Known}
-use Rattle.filterset_listing.specs.declared.comparing.Part.{Part}
+use Rattle.filterset_listing.specs.{ComparisonText.differs, ComparisonText.has_unknown, Groups.known_of, Listing.one_of}
+use Rattle.filterset_listing.specs.{Pickers.Answers, Pickers.Picker, declared.binary.AskedBinary.AskedBinary}
+use Rattle.filterset_listing.specs.declared.{comparing.BinaryDifference.BinaryDifference, groups.TestAnswer.TestAnswer}
+use Rattle.filterset_listing.specs.declared.{groups.TestAnswer.TheVariants.Known, comparing.Part.Part}
 use Rattle.filterset_listing.specs.declared.comparing.Part.TheVariants.{OnlyFirst, OnlySecond, Unknown}
 use Rattle.filterset_listing.proofs.PickerLemmas.{answers_alone}
+use Rattle.filterset_listing.specs.declared.groups.TestAnswer.TheVariants as answers
 
 -- ---- elements that have a property
 

@@ -1,12 +1,8 @@
 -- Tests that are divided one after the other.
 use Rattle.std.proofs.Common.{◌≡◌, ◌∙◌, List, [], ◌∷◌, ◌++◌, ap, append_assoc, refl, sym}
 use Rattle.std.proofs.lemmas.List.{append-nil}
-use Rattle.filterset_listing.specs.Asking.{Text}
-use Rattle.filterset_listing.specs.Comparing.{Divides, is_of}
-use Rattle.filterset_listing.specs.Groups.{known_of}
-use Rattle.filterset_listing.specs.Listing.{one_of}
-use Rattle.filterset_listing.specs.declared.comparing.Part.{Part}
-use Rattle.filterset_listing.specs.declared.groups.TestAnswer.{TestAnswer}
+use Rattle.filterset_listing.specs.{Asking.Text, Comparing.Divides, Comparing.is_of, Groups.known_of, Listing.one_of}
+use Rattle.filterset_listing.specs.declared.{comparing.Part.Part, groups.TestAnswer.TestAnswer}
 
 -- one more test
 pub Divides-push : (One Other : Text → TestAnswer → Type 0) (tests : List Text) (test : Text) (before after : Part → List Text) (x y : TestAnswer)

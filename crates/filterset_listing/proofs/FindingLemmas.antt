@@ -1,24 +1,18 @@
 -- What is found of a tree from what is found of its operands.
 use Rattle.std.proofs.Common.{◌≡◌, Bool, true, false, List, [], ◌∷◌, ◌++◌, refl, sym, ◌∙◌, ap, subst, append_assoc, Option, Some, None}
-use Rattle.std.specs.Prelude.{cond}
-use Rattle.std.specs.Bool.{IsTrue}
-use Rattle.std.proofs.lemmas.Bool.{false≢true}
-use Rattle.std.proofs.lemmas.List.{append-nil}
+use Rattle.std.specs.{Prelude.cond, Bool.IsTrue}
+use Rattle.std.proofs.lemmas.{Bool.false≢true, List.append-nil}
 use Rattle.filterset_faults.specs.declared.span.SourceSpan.{SourceSpan}
 use Rattle.filterset_grammar.specs.Tree.{Leaf, Tree, Not, Union, Join, Parens, Set}
-use Rattle.filterset_grammar.specs.declared.operators.AndOperator.{AndOperator}
-use Rattle.filterset_grammar.specs.declared.operators.DifferenceOperator.{DifferenceOperator}
+use Rattle.filterset_grammar.specs.declared.operators.{AndOperator.AndOperator, DifferenceOperator.DifferenceOperator}
 use Rattle.filterset_grammar.specs.declared.operators.Joiner.TheVariants.{Both, Without, ExactlyOne}
-use Rattle.filterset_grammar.specs.declared.operators.NotOperator.{NotOperator}
-use Rattle.filterset_grammar.specs.declared.operators.OrOperator.{OrOperator}
+use Rattle.filterset_grammar.specs.declared.operators.{NotOperator.NotOperator, OrOperator.OrOperator}
 use Rattle.filterset_grammar.specs.declared.operators.SymmetricDifferenceOperator.{SymmetricDifferenceOperator}
 use Rattle.filterset_listing.specs.Columns.{values_of, first_of, second_of, Fits}
 use Rattle.filterset_listing.specs.Finding.{constant_for, needless_by, may_still, unmatched_by, AreDeciding, FindsFor}
 use Rattle.filterset_listing.specs.Needless.{Frame, Negated, UnionLeft, UnionRight, JoinLeft, JoinRight, Enclosed, IsNeedless, Found, IsFound, by_none, by_all, within}
-use Rattle.filterset_listing.specs.SubjectValues.{Basis}
-use Rattle.filterset_listing.specs.Unmatched.{AreUnmatched}
-use Rattle.filterset_listing.specs.declared.columns.Columns.{Columns}
-use Rattle.filterset_listing.specs.declared.subjects.Subject.{Subject}
+use Rattle.filterset_listing.specs.{SubjectValues.Basis, Unmatched.AreUnmatched}
+use Rattle.filterset_listing.specs.declared.{columns.Columns.Columns, subjects.Subject.Subject}
 use Rattle.filterset_listing.proofs.ColumnLemmas.{own_column}
 use Rattle.filterset_listing.proofs.DecidingLemmas.{beside_decides, Judged, judged}
 

@@ -2,31 +2,24 @@
 use Rattle.std.proofs.Common.{◌≡◌, ◌∙◌, ℕ, ◌+◌, ◌<◌, length, get_or, take, unwrap_or, Bool, true, false, List, [], ◌∷◌, ◌++◌, Option, Some, None, append_assoc, cond, is_some, refl, sym, ap, subst, inl, inr}
 use Rattle.std.specs.Prelude.{◌↔◌, ◌⊎◌, All, MatchOption, codes, map}
 use Rattle.std.specs.Borrow.{Bor}
-use Rattle.std.proofs.lemmas.Bool.{false≢true}
-use Rattle.std.proofs.lemmas.List.{append-nil, map-append}
-use Rattle.std.proofs.lemmas.List.Elements.{All-push}
+use Rattle.std.proofs.lemmas.{Bool.false≢true, List.append-nil, List.map-append, List.Elements.All-push}
 use Rattle.filterset_expression.specs.Expression as compiled
 use Rattle.filterset_expression.specs.Connectives.{Decides, kleene, kleene_not}
 use Rattle.filterset_expression.specs.Expression.{CompiledLeaf, Holds, HoldsOfBinary, HoldsOfTest, is_group, is_of_test, with_default}
 use Rattle.filterset_expression.specs.FlatExpressions.{IsFlat, IsTold, has_step}
 use Rattle.filterset_expression.specs.Folds.{Folds, Settles}
 use Rattle.filterset_expression.specs.Formula.{Formula, Leaf, Negation, Compound, TrueWhere}
-use Rattle.filterset_expression.specs.declared.expression.CompiledExpr.{CompiledExpr}
-use Rattle.filterset_expression.specs.declared.flat.FlatExpr.{FlatExpr}
-use Rattle.filterset_expression.specs.declared.query.BinaryQuery.{BinaryQuery}
-use Rattle.filterset_expression.specs.declared.query.TestQuery.{TestQuery}
-use Rattle.filterset_expression.proofs.Connectives.{connects_alike}
-use Rattle.filterset_expression.proofs.FlatSteps.{no_group_of_steps}
+use Rattle.filterset_expression.specs.declared.{expression.CompiledExpr.CompiledExpr, flat.FlatExpr.FlatExpr}
+use Rattle.filterset_expression.specs.declared.query.{BinaryQuery.BinaryQuery, TestQuery.TestQuery}
+use Rattle.filterset_expression.proofs.{Connectives.connects_alike, FlatSteps.no_group_of_steps}
 use Rattle.filterset_expression.proofs.LeafAnswers.{lookups_alike, told_of_test}
 use Rattle.filterset_expression.proofs.Meanings.{alike, alike_at}
 use Rattle.filterset_matchers.specs.Matcher.{MatchesName}
 use Rattle.filterset_listing.specs.Asking.{ExprPicks, Text, in_global, in_group, is_no}
 use Rattle.filterset_listing.specs.Groups.{Applies, Covers, HangsOn, IsAnswer, MayBeIn, Says, applies}
 use Rattle.filterset_listing.specs.Overrides.{AreFor, IsLaid, IsToldOf, MayApply, NeverApplies, SameGroups, all_tests, filter_of, filter_or_all, given_of}
-use Rattle.filterset_listing.specs.declared.groups.FlatOverride.{FlatOverride}
-use Rattle.filterset_listing.specs.declared.groups.GroupOverride.{GroupOverride}
-use Rattle.filterset_listing.specs.declared.groups.TestAnswer.{TestAnswer}
-use Rattle.filterset_listing.specs.declared.groups.TestAnswer.TheVariants.{Known, Unknown}
+use Rattle.filterset_listing.specs.declared.groups.{FlatOverride.FlatOverride, GroupOverride.GroupOverride}
+use Rattle.filterset_listing.specs.declared.groups.TestAnswer.{TestAnswer, TheVariants.Known, TheVariants.Unknown}
 use Rattle.filterset_listing.specs.declared.groups.ToldOverride.{ToldOverride}
 use Rattle.filterset_listing.proofs.ListingLemmas.{one_more}
 

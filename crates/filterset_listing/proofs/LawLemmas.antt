@@ -1,34 +1,29 @@
 -- What a constant in place of an operand changes of what the whole says.
 use Rattle.std.proofs.Common.{◌≡◌, ◌↔◌, Bool, true, false, List, [], ◌∷◌, replicate, refl, sym, subst, inl, inr, ⊎_elim, Option, Some, None}
-use Rattle.std.specs.Prelude.{◌⊎◌, not}
-use Rattle.std.specs.Bool.{IsTrue, one_answer}
-use Rattle.std.proofs.lemmas.Bool.{false≢true}
-use Rattle.std.proofs.lemmas.List.{length-replicate}
+use Rattle.std.specs.{Prelude.◌⊎◌, Prelude.not, Bool.IsTrue, Bool.one_answer}
+use Rattle.std.proofs.lemmas.{Bool.false≢true, List.length-replicate}
 use Rattle.filterset_expression.specs.BinaryMeaning.{EitherLeaf, OfTree, OfDefault, is_either_of_test, EitherOfBinary, tree_leaf_with_default, tree_with_default, PossibleOfTree}
-use Rattle.filterset_expression.specs.Expression as compiled
 use Rattle.filterset_expression.specs.Expression.{CompiledLeaf, HoldsOfTest, HoldsOfBinary, formula, is_of_test, Lookup}
-use Rattle.filterset_expression.specs.Formula as formulas
 use Rattle.filterset_expression.specs.Formula.{Formula, TrueWhere, replaced}
-use Rattle.filterset_expression.specs.Meaning.{MeansOfTest, tree_formula}
-use Rattle.filterset_expression.specs.Values.{occurrences, TrueUnder}
+use Rattle.filterset_expression.specs.{Meaning.MeansOfTest, Meaning.tree_formula, Values.occurrences, Values.TrueUnder}
 use Rattle.filterset_expression.specs.declared.expression.CompiledExpr.{CompiledExpr}
 use Rattle.filterset_expression.specs.declared.logic.Connective.TheVariants.{Conjunction, Disjunction, ExclusiveDisjunction}
 use Rattle.filterset_expression.specs.declared.query.TestQuery.{TestQuery}
-use Rattle.filterset_expression.proofs.Connectives.{connects_alike}
-use Rattle.filterset_expression.proofs.Exact.{definite_answer, same_unless}
+use Rattle.filterset_expression.proofs.{Connectives.connects_alike, Exact.definite_answer, Exact.same_unless}
 use Rattle.filterset_expression.proofs.Shapes.{truth-replaced}
+use Rattle.filterset_expression.specs.Expression as compiled
+use Rattle.filterset_expression.specs.Formula as formulas
 use Rattle.filterset_faults.specs.declared.span.SourceSpan.{SourceSpan}
 use Rattle.filterset_grammar.specs.Tree as tree
 use Rattle.filterset_grammar.specs.Tree.{Leaf, Matching, Platform, Default, Tree, Not, Union, Join, Parens, Set}
 use Rattle.filterset_grammar.specs.declared.operators.Joiner.TheVariants.{Both, Without, ExactlyOne}
 use Rattle.filterset_grammar.specs.declared.predicate.Predicate.TheVariants.{Package, Deps, Rdeps, Kind, Binary, BinaryId, Test, Group}
 use Rattle.filterset_graph.specs.declared.package.PackageMetadata.{PackageMetadata}
-use Rattle.filterset_listing.specs.Asking.{Text, in_group, TreePicks}
-use Rattle.filterset_listing.specs.Values.{HasValueIn}
-use Rattle.filterset_listing.specs.declared.explaining.candidate.Candidate.TheVariants as candidates
+use Rattle.filterset_listing.specs.{Asking.Text, Asking.in_group, Asking.TreePicks, Values.HasValueIn}
 use Rattle.filterset_listing.specs.Needless.{Frame, Negated, UnionLeft, UnionRight, JoinLeft, JoinRight, Enclosed, placed, constant, MayDecide, ChangesNothing}
 use Rattle.filterset_listing.specs.SubjectValues.{Basis, may_be, MaySay}
 use Rattle.filterset_listing.specs.declared.subjects.Subject.{Subject}
+use Rattle.filterset_listing.specs.declared.explaining.candidate.Candidate.TheVariants as candidates
 
 -- ---- what cannot fail to hold
 

@@ -1,19 +1,15 @@
 -- Tests that are picked one after the other.
 use Rattle.std.proofs.Common.{◌≡◌, ℕ, ◌+◌, ◌<◌, Bool, true, false, List, [], ◌∷◌, ◌++◌, length, take, get_or, ◌∙◌, sym, ap, refl, subst}
-use Rattle.std.specs.Prelude.{◌↔◌, Option, Some, None}
-use Rattle.std.specs.List.{AllZip}
-use Rattle.std.proofs.lemmas.Bool.{false≢true}
-use Rattle.std.proofs.lemmas.List.{take_more}
+use Rattle.std.specs.{Prelude.◌↔◌, Prelude.Option, Prelude.Some, Prelude.None, List.AllZip}
+use Rattle.std.proofs.lemmas.{Bool.false≢true, List.take_more}
 pub use Rattle.std.proofs.lemmas.Slice.Zip.{all_zipped_more as AllZip-push}
 use Rattle.filterset_expression.specs.Expression.{IsDefinite, IsUndecided}
-use Rattle.filterset_expression.specs.declared.expression.CompiledExpr.{CompiledExpr}
-use Rattle.filterset_expression.specs.declared.query.BinaryQuery.{BinaryQuery}
+use Rattle.filterset_expression.specs.declared.{expression.CompiledExpr.CompiledExpr, query.BinaryQuery.BinaryQuery}
 use Rattle.filterset_expression.proofs.LeafAnswers.{definite_of_test}
 use Rattle.filterset_listing.specs.Asking.{ExprCanPick, ExprPicks, Text, in_group, is_no}
 use Rattle.filterset_listing.specs.Groups.{Says}
 use Rattle.filterset_listing.specs.Listing.{Picked, no_tests, one_passed, one_picked, one_unknown, picked_by, unknown_by}
-use Rattle.filterset_listing.specs.declared.groups.GroupOverride.{GroupOverride}
-use Rattle.filterset_listing.specs.declared.groups.TestAnswer.{TestAnswer}
+use Rattle.filterset_listing.specs.declared.groups.{GroupOverride.GroupOverride, TestAnswer.TestAnswer}
 use Rattle.filterset_listing.specs.declared.groups.TestAnswer.TheVariants.{Known, Unknown}
 
 -- where the binary tells that a filterset does not hold, it picks no test of it, whatever group the test is in

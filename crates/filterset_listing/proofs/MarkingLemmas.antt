@@ -1,31 +1,20 @@
 -- The steps in which a map is made of the members of another one.
 use Rattle.std.proofs.Common.{◌≡◌, ℕ, ◌+◌, ◌<◌, Bool, true, false, cond, length, get_or, map, take, inl, inr, List, None, Some, Result, Ok, Err, IfOk, ◌≤◌, BTreeMap, [], ◌∷◌, ◌++◌, String, Global, string_bytes, string_cmp, nat_cmp, Less, Greater, refl, sym, ap, ◌∙◌, subst, arith, codes}
-use Rattle.std.proofs.lemmas.List.{take_more, map-append}
+use Rattle.std.proofs.lemmas.{Cmp.nat_list_cmp_total, List.take_more, List.map-append}
 use Rattle.std.proofs.lemmas.List.Elements.{Contains-append_left, Contains-push, Contains-push_cases}
 use Rattle.std.proofs.lemmas.Slice.Eq.{bytes_eq-Decides}
-use Rattle.std.specs.Prelude.{Contains, Option, unwrap_or}
-use Rattle.std.specs.Bool.{Decides}
-use Rattle.std.specs.Borrow.{Bor}
-use Rattle.std.specs.Str.{bytes_eq}
+use Rattle.std.specs.{BTreeMap.get_by, BTreeMap.insert_entry, Bool.Decides, Borrow.Bor, Cmp.Lexicographic.slice_cmp}
+use Rattle.std.specs.{List.AllByRecursion, List.Sorted.IsStrictlySortedBy, Map.keys_of, Ordering.ordering_reverse}
+use Rattle.std.specs.{Prelude.Contains, Prelude.Option, Prelude.unwrap_or, Str.bytes_eq}
 use Rattle.filterset_graph.specs.declared.binary.TestCaseName.{TestCaseName}
 use Rattle.filterset_listing.specs.Asking.{Text}
 use Rattle.filterset_listing.specs.ListJson.{AreAnswers, IsCompactJson, IsKnown, IsMarked, MarksEach, MarksObject, MarksSuite, MarksTest, MarksUnder, an_object, answer_in, next_member, no_member, no_object}
 use Rattle.filterset_listing.specs.declared.groups.TestAnswer.TheVariants.{Known, Unknown}
-use Rattle.filterset_listing.specs.declared.listing.UnknownTest.{UnknownTest}
-use Rattle.filterset_listing.specs.declared.listing.json.TestMark.{TestMark}
+use Rattle.filterset_listing.specs.declared.listing.{UnknownTest.UnknownTest, json.TestMark.TestMark}
 use Rattle.filterset_listing.specs.declared.listing.json.TestMark.TheVariants.{Asked, Beyond, Uncounted}
 use Rattle.filterset_listing.proofs.ListingLemmas.{one_more}
-use Rattle.std.proofs.lemmas.Cmp.{nat_list_cmp_total}
-use Rattle.std.specs.BTreeMap.{get_by, insert_entry}
-use Rattle.std.specs.Cmp.Lexicographic.{slice_cmp}
-use Rattle.std.specs.List.{AllByRecursion}
-use Rattle.std.specs.List.Sorted.{IsStrictlySortedBy}
-use Rattle.std.specs.Map.{keys_of}
-use Rattle.std.specs.Ordering.{ordering_reverse}
 use Rattle.serde_json.specs.Data.{Data, object, Members, no_members, member, depth}
-use Rattle.serde_json.specs.Find.{as_object}
-use Rattle.serde_json.specs.Read.{read, max_depth}
-use Rattle.serde_json.specs.View.{view, members_view}
+use Rattle.serde_json.specs.{Find.as_object, Read.read, Read.max_depth, View.view, View.members_view}
 use Rattle.serde_json.specs.Written.{IsInOrder, compact_text, has_float}
 use Rattle.serde_json.specs.declared.value.Value.{Value, Object}
 use Rattle.serde_json.proofs.Views.{Entry, view-Object}

@@ -1,18 +1,14 @@
 -- What compiled expressions can pick, and what their trees can pick.
 use Rattle.std.proofs.Common.{◌≡◌, ◌∙◌, ◌↔◌, ◌+◌, ◌++◌, Bool, true, List, refl, sym, subst, inl, inr, length, take, drop, replicate, length-append, arith, ◌⊎◌}
-use Rattle.std.proofs.lemmas.List.{length-replicate}
-use Rattle.std.proofs.Math.Seq.{take-append_seam, drop-append_seam}
+use Rattle.std.proofs.{lemmas.List.length-replicate, Math.Seq.take-append_seam, Math.Seq.drop-append_seam}
 use Rattle.filterset_faults.specs.declared.span.SourceSpan.{SourceSpan}
 use Rattle.filterset_graph.specs.declared.package.PackageMetadata.{PackageMetadata}
 use Rattle.filterset_grammar.specs.Tree.{Tree}
 use Rattle.filterset_expression.specs.declared.logic.Connective.TheVariants.{Conjunction, Disjunction}
-use Rattle.filterset_expression.specs.BinaryMeaning.{PossibleOfTree}
-use Rattle.filterset_expression.specs.Expression.{Possible}
-use Rattle.filterset_expression.specs.Formula.{Compound, Formula}
-use Rattle.filterset_expression.specs.Meaning.{IsCompiled}
+use Rattle.filterset_expression.specs.{BinaryMeaning.PossibleOfTree, Expression.Possible}
+use Rattle.filterset_expression.specs.{Formula.Compound, Formula.Formula, Meaning.IsCompiled}
 use Rattle.filterset_expression.specs.Values.{CanBe, TrueUnder, occurrences}
-use Rattle.filterset_expression.specs.declared.expression.CompiledExpr.{CompiledExpr}
-use Rattle.filterset_expression.specs.declared.query.BinaryQuery.{BinaryQuery}
+use Rattle.filterset_expression.specs.declared.{expression.CompiledExpr.CompiledExpr, query.BinaryQuery.BinaryQuery}
 use Rattle.filterset_expression.proofs.BinaryMeanings.{tells_the_same}
 use Rattle.filterset_expression.proofs.Exact.{back_length, compound_can_be, front_length}
 use Rattle.filterset_listing.specs.Asking.{ExprCanPick, TreeCanPick}

@@ -1,14 +1,9 @@
 -- Packages that are named one after the other.
 use Rattle.std.proofs.Common.{◌≡◌, ◌+◌, ◌<◌, ◌≤◌, Bor, List, [], ◌∷◌, ◌++◌, Bool, true, false, cond, ◌||◌, length, map, take, arith, refl, sym, ap, ◌∙◌, string_bytes, length-append, length-take}
-use Rattle.std.proofs.lemmas.List.{append-nil, length-map, map-append, take-append-le, take_all}
-use Rattle.std.proofs.lemmas.List.Elements.{filter-append}
+use Rattle.std.proofs.lemmas.List.{append-nil, length-map, map-append, take-append-le, take_all, Elements.filter-append}
 use Rattle.std.proofs.lemmas.Map.Text.{is_eq-slice_cmp}
-use Rattle.std.specs.Cmp.Lexicographic.{slice_cmp}
-use Rattle.std.specs.List.{list_any}
-use Rattle.std.specs.Ordering.{is_eq, nat_cmp}
-use Rattle.std.specs.Str.{bytes_eq}
-use Rattle.filterset_graph.specs.Packages.{Text}
-use Rattle.filterset_graph.specs.declared.package.PackageMetadata.{PackageMetadata}
+use Rattle.std.specs.{Cmp.Lexicographic.slice_cmp, List.list_any, Ordering.is_eq, Ordering.nat_cmp, Str.bytes_eq}
+use Rattle.filterset_graph.specs.{Packages.Text, declared.package.PackageMetadata.PackageMetadata}
 use Rattle.filterset_listing.specs.NamedPackages.{Names, members}
 use Rattle.filterset_listing.specs.declared.explaining.packages.NamedPackages.{NamedPackages}
 

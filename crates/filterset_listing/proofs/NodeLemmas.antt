@@ -4,19 +4,14 @@ use Rattle.std.specs.List.{AllZip}
 use Rattle.filterset_faults.specs.declared.span.SourceSpan.{SourceSpan}
 use Rattle.filterset_graph.specs.declared.package.PackageMetadata.{PackageMetadata}
 use Rattle.filterset_grammar.specs.Tree.{Tree, Leaf, Not, Union, Join, Set}
-use Rattle.filterset_grammar.specs.declared.operators.Joiner.{Joiner}
-use Rattle.filterset_grammar.specs.declared.operators.NotOperator.{NotOperator}
-use Rattle.filterset_grammar.specs.declared.operators.OrOperator.{OrOperator}
+use Rattle.filterset_grammar.specs.declared.operators.{Joiner.Joiner, NotOperator.NotOperator, OrOperator.OrOperator}
 use Rattle.filterset_language.specs.Views.{tree_of}
 use Rattle.filterset_listing.specs.Columns.{Fits, Keeps, first_of, second_of, values_of}
 use Rattle.filterset_listing.specs.Explaining.{AddsNode, Explains, HasShared, IsExplained, shared_value}
-use Rattle.filterset_listing.specs.Nodes.{tree_nodes}
-use Rattle.filterset_listing.specs.NamedPackages.{NamesPackages, stands_for_packages}
+use Rattle.filterset_listing.specs.{Nodes.tree_nodes, NamedPackages.NamesPackages, NamedPackages.stands_for_packages}
 use Rattle.filterset_listing.specs.SubjectValues.{Basis, HasColumn}
-use Rattle.filterset_listing.specs.declared.columns.Columns.{Columns}
-use Rattle.filterset_listing.specs.declared.explaining.ExplainedNode.{ExplainedNode}
-use Rattle.filterset_listing.specs.declared.explaining.packages.NamedPackages.{NamedPackages}
-use Rattle.filterset_listing.specs.declared.subjects.Subject.{Subject}
+use Rattle.filterset_listing.specs.declared.{columns.Columns.Columns, explaining.ExplainedNode.ExplainedNode}
+use Rattle.filterset_listing.specs.declared.{explaining.packages.NamedPackages.NamedPackages, subjects.Subject.Subject}
 use Rattle.filterset_listing.proofs.PicksLemmas.{AllZip-weaker}
 
 AllZip-append : {A B : Type 0} (R : A → B → Type 0) (xs zs : List A) (ys ws : List B) → AllZip R xs ys → AllZip R zs ws → AllZip R (xs ++ zs) (ys ++ ws)

@@ -6,23 +6,16 @@ use Rattle.filterset_faults.specs.declared.span.SourceSpan.{SourceSpan}
 use Rattle.filterset_graph.specs.declared.package.PackageMetadata.{PackageMetadata}
 use Rattle.filterset_grammar.specs.Tree.{Tree}
 use Rattle.filterset_expression.proofs.Meanings.{compiled_means}
-use Rattle.filterset_expression.specs.Expression.{IsDefinite, IsUndecided}
-use Rattle.filterset_expression.specs.FlatExpressions.{IsFlat}
-use Rattle.filterset_expression.specs.Meaning.{IsCompiled}
-use Rattle.filterset_expression.specs.declared.expression.CompiledExpr.{CompiledExpr}
-use Rattle.filterset_expression.specs.declared.flat.FlatExpr.{FlatExpr}
-use Rattle.filterset_expression.specs.declared.query.BinaryQuery.{BinaryQuery}
+use Rattle.filterset_expression.specs.{Expression.IsDefinite, Expression.IsUndecided, FlatExpressions.IsFlat}
+use Rattle.filterset_expression.specs.{Meaning.IsCompiled, declared.expression.CompiledExpr.CompiledExpr}
+use Rattle.filterset_expression.specs.declared.{flat.FlatExpr.FlatExpr, query.BinaryQuery.BinaryQuery}
 use Rattle.filterset_listing.specs.Asking.{ExprPicks, Text, TreePicks, in_group}
-use Rattle.filterset_listing.specs.Comparing.{IsBinaryDifference}
-use Rattle.filterset_listing.specs.Overrides.{AreFor}
+use Rattle.filterset_listing.specs.{Comparing.IsBinaryDifference, Overrides.AreFor}
 use Rattle.filterset_listing.specs.Pickers.{Answers, Picker, expr_picker, tree_picker}
 use Rattle.filterset_listing.specs.declared.binary.AskedBinary.{AskedBinary}
 use Rattle.filterset_listing.specs.declared.comparing.BinaryDifference.{BinaryDifference}
-use Rattle.filterset_listing.specs.declared.groups.GroupOverride.{GroupOverride}
-use Rattle.filterset_listing.specs.declared.groups.TestAnswer.{TestAnswer}
-use Rattle.filterset_listing.proofs.DividesLemmas.{divides_alike}
-use Rattle.filterset_listing.proofs.GroupLemmas.{says_for}
-use Rattle.filterset_listing.proofs.MeaningLemmas.{compiled_can_be}
+use Rattle.filterset_listing.specs.declared.groups.{GroupOverride.GroupOverride, TestAnswer.TestAnswer}
+use Rattle.filterset_listing.proofs.{DividesLemmas.divides_alike, GroupLemmas.says_for, MeaningLemmas.compiled_can_be}
 use Rattle.filterset_listing.proofs.PicksLemmas.{AllZip-weaker, says_alike}
 
 -- what `matches_binary` returns is the answer of the compiled expression

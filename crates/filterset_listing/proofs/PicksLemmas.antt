@@ -1,17 +1,12 @@
 -- Filtersets that answer alike have the same picks.
 use Rattle.std.proofs.Common.{◌≡◌, ◌↔◌, Bool, true, false, List, [], ◌∷◌}
-use Rattle.std.specs.Prelude.{MatchBool}
-use Rattle.std.specs.List.{AllZip}
+use Rattle.std.specs.{Prelude.MatchBool, List.AllZip}
 use Rattle.filterset_expression.specs.declared.expression.CompiledExpr.{CompiledExpr}
-use Rattle.filterset_expression.specs.declared.query.BinaryQuery.{BinaryQuery}
-use Rattle.filterset_expression.specs.declared.query.TestQuery.{TestQuery}
-use Rattle.filterset_listing.specs.Asking.{Text}
-use Rattle.filterset_listing.specs.Groups.{IsAnswer, Says}
+use Rattle.filterset_expression.specs.declared.query.{BinaryQuery.BinaryQuery, TestQuery.TestQuery}
+use Rattle.filterset_listing.specs.{Asking.Text, Groups.IsAnswer, Groups.Says}
 use Rattle.filterset_listing.specs.Listing.{IsBinaryPicks, Picked, no_tests, one_passed, one_picked, one_unknown, tests_of, unknown_of}
-use Rattle.filterset_listing.specs.declared.binary.AskedBinary.{AskedBinary}
-use Rattle.filterset_listing.specs.declared.groups.GroupOverride.{GroupOverride}
-use Rattle.filterset_listing.specs.declared.groups.TestAnswer.{TestAnswer}
-use Rattle.filterset_listing.specs.declared.groups.TestAnswer.TheVariants.{Known, Unknown}
+use Rattle.filterset_listing.specs.declared.{binary.AskedBinary.AskedBinary, groups.GroupOverride.GroupOverride}
+use Rattle.filterset_listing.specs.declared.groups.TestAnswer.{TestAnswer, TheVariants.Known, TheVariants.Unknown}
 use Rattle.filterset_listing.specs.declared.listing.BinaryPicks.{BinaryPicks}
 
 -- what holds of each pair, and gives something else of it, gives that of each

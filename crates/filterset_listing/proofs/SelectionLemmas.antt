@@ -1,16 +1,12 @@
 -- Unions within the default filter, and what they pick.
 use Rattle.std.proofs.Common.{◌≡◌, ◌∙◌, List, [], ◌∷◌, Bool, true, false, refl, ap, subst, sym, inl, inr}
-use Rattle.std.specs.Prelude.{◌↔◌, ◌⊎◌, IsTrue}
-use Rattle.std.specs.List.{AllZip, Any}
+use Rattle.std.specs.{Prelude.◌↔◌, Prelude.◌⊎◌, Prelude.IsTrue, List.AllZip, List.Any}
 use Rattle.std.proofs.lemmas.Bool.{false≢true}
 use Rattle.filterset_expression.specs.declared.logic.Connective.TheVariants.{Conjunction}
 use Rattle.filterset_expression.specs.Expression.{CompiledLeaf, Default, HoldsOfBinary, HoldsOfTest, formula, is_of_test, leaf_with_default}
 use Rattle.filterset_expression.specs.Formula.{Compound, Formula, Leaf, TrueWhere, replaced}
-use Rattle.filterset_expression.specs.Meaning.{IsCompiled}
-use Rattle.filterset_expression.specs.Values.{CanBe}
-use Rattle.filterset_expression.specs.declared.expression.CompiledExpr.{CompiledExpr}
-use Rattle.filterset_expression.specs.declared.query.BinaryQuery.{BinaryQuery}
-use Rattle.filterset_expression.specs.declared.query.TestQuery.{TestQuery}
+use Rattle.filterset_expression.specs.{Meaning.IsCompiled, Values.CanBe, declared.expression.CompiledExpr.CompiledExpr}
+use Rattle.filterset_expression.specs.declared.query.{BinaryQuery.BinaryQuery, TestQuery.TestQuery}
 use Rattle.filterset_expression.proofs.Meanings.{compiled_means}
 use Rattle.filterset_listing.specs.Asking.{ExprCanPick, ExprPicks, Text, TreeCanPick, TreePicks, in_group}
 use Rattle.filterset_listing.specs.Selection.{IsSelection, MeansSelection, RunDoes}

@@ -1,30 +1,24 @@
 -- The value that a tree has for each subject of a candidate is its value for the candidate.
 use Rattle.std.proofs.Common.{arith, ◌≡◌, ◌∙◌, ◌&&◌, ◌⊎◌, ℕ, zero, suc, Bool, true, false, List, [], ◌∷◌, Option, Some, None, cond, refl, sym, subst, inl, inr}
 use Rattle.std.specs.Prelude.{◌↔◌, All, Contains, IsTrue, MatchBool, is_none, not}
-use Rattle.std.specs.Borrow.{Bor}
-use Rattle.std.specs.List.{AllZip, list_all}
+use Rattle.std.specs.{Borrow.Bor, List.AllZip, List.list_all}
 use Rattle.std.proofs.lemmas.Bool.{not-true as not_true, and_parts, false≢true, or_cases}
 use Rattle.std.proofs.lemmas.List.Elements.{All-cons, All-head, All-nil, All-tail, Contains-append_right}
 use Rattle.filterset_faults.specs.declared.span.SourceSpan.{SourceSpan}
 use Rattle.filterset_grammar.specs.Tree.{Tree}
-use Rattle.filterset_expression.specs.declared.query.BinaryQuery.{BinaryQuery}
-use Rattle.filterset_expression.specs.declared.query.TestQuery.{TestQuery}
+use Rattle.filterset_expression.specs.declared.query.{BinaryQuery.BinaryQuery, TestQuery.TestQuery}
 use Rattle.filterset_listing.specs.Asking.{Text, TreePicks}
 use Rattle.filterset_listing.specs.Explaining.{ExplainsBy, HasShared, IsExplained, NamesOverride, has_unknown, shared_value}
-use Rattle.filterset_listing.specs.Groups.{IsAnswer, MayBeIn, known_of}
-use Rattle.filterset_listing.specs.Nodes.{tree_nodes}
+use Rattle.filterset_listing.specs.{Groups.IsAnswer, Groups.MayBeIn, Groups.known_of, Nodes.tree_nodes}
 use Rattle.filterset_listing.specs.SubjectValues.{Basis, HasColumn, may_be}
 use Rattle.filterset_listing.specs.Subjects.{AreOfCandidate, AreOfTest, HangsBy}
 use Rattle.filterset_listing.specs.Values.{HasValue, HasValueIn}
-use Rattle.filterset_listing.specs.declared.explaining.ExplainedNode.{ExplainedNode}
-use Rattle.filterset_listing.specs.declared.explaining.candidate.Candidate.{Candidate}
+use Rattle.filterset_listing.specs.declared.explaining.{ExplainedNode.ExplainedNode, candidate.Candidate.Candidate}
 use Rattle.filterset_listing.specs.declared.explaining.candidate.Candidate.TheVariants.{Binary, Test}
-use Rattle.filterset_listing.specs.declared.groups.GroupOverride.{GroupOverride}
-use Rattle.filterset_listing.specs.declared.groups.TestAnswer.{TestAnswer}
+use Rattle.filterset_listing.specs.declared.groups.{GroupOverride.GroupOverride, TestAnswer.TestAnswer}
 use Rattle.filterset_listing.specs.declared.groups.TestAnswer.TheVariants.{Known, Unknown}
 use Rattle.filterset_listing.specs.declared.subjects.Subject.{Subject}
-use Rattle.filterset_listing.proofs.NodeLemmas.{explained_weaker}
-use Rattle.filterset_listing.proofs.SubjectLemmas.{groups_of}
+use Rattle.filterset_listing.proofs.{NodeLemmas.explained_weaker, SubjectLemmas.groups_of}
 
 not_both : (x y : Bool) → (not x && y) ≡ false → (x ≡ true) ⊎ (y ≡ false)
 not_both true y e = inl refl

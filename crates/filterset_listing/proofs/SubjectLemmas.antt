@@ -1,19 +1,15 @@
 -- What filtersets are asked about for a list, from one test or binary to the next.
 use Rattle.std.proofs.Common.{arith, ◌≡◌, ◌∙◌, ◌⊎◌, ℕ, ◌+◌, ◌<◌, length, get_or, map, drop, List, [], ◌∷◌, ◌++◌, Option, Some, None, true, refl, sym, ap, subst, inl, inr, append_assoc, unwrap_or}
-use Rattle.std.specs.Borrow.{Bor}
-use Rattle.std.specs.Prelude.{◌↔◌, All, Contains, codes}
+use Rattle.std.specs.{Borrow.Bor, Prelude.◌↔◌, Prelude.All, Prelude.Contains, Prelude.codes}
 use Rattle.std.proofs.lemmas.List.{append-nil, drop_more, map-append}
 use Rattle.std.proofs.lemmas.List.Elements.{All-append, All-cons, All-nil, Contains-append_left, Contains-append_right}
 use Rattle.filterset_expression.specs.declared.expression.CompiledExpr.{CompiledExpr}
-use Rattle.filterset_expression.specs.declared.query.BinaryQuery.{BinaryQuery}
-use Rattle.filterset_expression.specs.declared.query.TestQuery.{TestQuery}
-use Rattle.filterset_listing.specs.Asking.{Text}
-use Rattle.filterset_listing.specs.Groups.{Covers, HangsOn, MayBeIn, applies}
+use Rattle.filterset_expression.specs.declared.query.{BinaryQuery.BinaryQuery, TestQuery.TestQuery}
+use Rattle.filterset_listing.specs.{Asking.Text, Groups.Covers, Groups.HangsOn, Groups.MayBeIn, Groups.applies}
 use Rattle.filterset_listing.specs.Overrides.{given_of}
 use Rattle.filterset_listing.specs.Subjects.{AreOfName, AreOfTest, HangsBy, Parts, next_part, no_parts}
 use Rattle.filterset_listing.specs.declared.explaining.candidate.Candidate.TheVariants.{Test}
-use Rattle.filterset_listing.specs.declared.groups.GroupOverride.{GroupOverride}
-use Rattle.filterset_listing.specs.declared.groups.ToldOverride.{ToldOverride}
+use Rattle.filterset_listing.specs.declared.groups.{GroupOverride.GroupOverride, ToldOverride.ToldOverride}
 use Rattle.filterset_listing.specs.declared.subjects.Subject.{Subject}
 
 -- ---- groups

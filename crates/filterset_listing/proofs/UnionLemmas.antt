@@ -1,13 +1,12 @@
 -- Unions that are made set by set, and what they pick.
 use Rattle.std.proofs.Common.{◌≡◌, ◌≢◌, zero, suc, List, [], ◌∷◌, ◌++◌, inl, inr, refl, sym, ap, subst, ◌∙◌, arith}
 use Rattle.std.specs.Prelude.{◌↔◌, ◌⊎◌, MatchOption, Option, Some, None}
-use Rattle.std.specs.Global.{Box}
-use Rattle.std.specs.List.{Any}
+use Rattle.std.specs.{Global.Box, List.Any}
 use Rattle.filterset_expression.specs.declared.logic.Connective.TheVariants.{Disjunction}
-use Rattle.filterset_expression.specs.Expression as compiled
 use Rattle.filterset_expression.specs.Expression.{CompiledLeaf, formula}
 use Rattle.filterset_expression.specs.Formula.{Compound, Formula, Leaf}
 use Rattle.filterset_expression.specs.declared.expression.CompiledExpr.{CompiledExpr}
+use Rattle.filterset_expression.specs.Expression as compiled
 use Rattle.filterset_listing.specs.Union.{AnyDoes, or_one_of, union_formula}
 
 -- ---- how unions are made

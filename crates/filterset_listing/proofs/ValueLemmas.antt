@@ -1,8 +1,7 @@
 -- What an operator makes of the values of its operands, and what predicates stand for.
 use Rattle.std.proofs.Common.{◌≡◌, ◌↔◌, Bool, true, false, List, refl, sym, subst, Option, Some, None, IsTrue}
 use Rattle.filterset_faults.specs.declared.span.SourceSpan.{SourceSpan}
-use Rattle.filterset_graph.specs.Packages.{Text}
-use Rattle.filterset_graph.specs.declared.package.PackageMetadata.{PackageMetadata}
+use Rattle.filterset_graph.specs.{Packages.Text, declared.package.PackageMetadata.PackageMetadata}
 use Rattle.filterset_grammar.specs.Tree.{Tree, Leaf, Not, Parens}
 use Rattle.filterset_grammar.specs.declared.operators.NotOperator.{NotOperator}
 use Rattle.filterset_expression.specs.BinaryMeaning.{EitherOfBinary, is_either_of_test, tree_leaf_with_default, tree_with_default}
@@ -11,15 +10,11 @@ use Rattle.filterset_expression.specs.declared.logic.Connective.{Connective}
 use Rattle.filterset_expression.specs.declared.logic.Connective.TheVariants.{Conjunction, Disjunction, ExclusiveDisjunction}
 use Rattle.filterset_expression.specs.Formula.{Formula, Negation, Compound, SameShape, TrueWhere, replaced}
 use Rattle.filterset_expression.specs.Meaning.{MeansOfTest, tree_formula}
-use Rattle.filterset_expression.specs.declared.expression.CompiledExpr.{CompiledExpr}
-use Rattle.filterset_expression.specs.declared.query.BinaryQuery.{BinaryQuery}
-use Rattle.filterset_expression.proofs.Connectives.{connected_decides}
-use Rattle.filterset_expression.proofs.Folding.{decides_not}
+use Rattle.filterset_expression.specs.declared.{expression.CompiledExpr.CompiledExpr, query.BinaryQuery.BinaryQuery}
+use Rattle.filterset_expression.proofs.{Connectives.connected_decides, Folding.decides_not}
 use Rattle.filterset_expression.proofs.Operands.{Takes, compound_takes, negation_takes}
-use Rattle.filterset_listing.specs.Asking.{in_group}
-use Rattle.filterset_listing.specs.Operands.{left_of, negated_by, right_of}
-use Rattle.filterset_listing.specs.Values.{HasValueIn}
-use Rattle.filterset_listing.specs.declared.explaining.candidate.Candidate.{Candidate}
+use Rattle.filterset_listing.specs.{Asking.in_group, Operands.left_of, Operands.negated_by, Operands.right_of}
+use Rattle.filterset_listing.specs.{Values.HasValueIn, declared.explaining.candidate.Candidate.Candidate}
 use Rattle.filterset_listing.specs.declared.explaining.candidate.Candidate.TheVariants.{Binary, Test}
 
 -- of two known values a connective makes a known one

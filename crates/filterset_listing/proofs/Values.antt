@@ -6,9 +6,7 @@ use Rattle.filterset_expression.specs.declared.expression.CompiledExpr.{Compiled
 use Rattle.filterset_faults.specs.declared.span.SourceSpan.{SourceSpan}
 use Rattle.filterset_grammar.specs.Tree.{Tree}
 use Rattle.filterset_graph.specs.declared.package.PackageMetadata.{PackageMetadata}
-use Rattle.filterset_listing.specs.Asking.{Text}
-use Rattle.filterset_listing.specs.Values.{HasValueIn}
-use Rattle.filterset_listing.specs.declared.explaining.candidate.Candidate.{Candidate}
+use Rattle.filterset_listing.specs.{Asking.Text, Values.HasValueIn, declared.explaining.candidate.Candidate.Candidate}
 use Rattle.filterset_listing.specs.declared.explaining.candidate.Candidate.TheVariants.{Binary, Test}
 use Rattle.filterset_listing.specs.SubjectValues.{Basis, HasValue, may_be, MaySay}
 use Rattle.filterset_listing.specs.declared.subjects.Subject.{Subject}

@@ -3,16 +3,13 @@ use Rattle.std.proofs.Common.{◌≡◌, ◌∙◌, ℕ, ◌+◌, ◌<◌, lengt
 use Rattle.std.specs.Prelude.{All, ◌≢◌, ◌↔◌, ◌⊎◌, IsTrue, MatchBool, codes}
 use Rattle.std.proofs.lemmas.Bool.{false≢true}
 use Rattle.filterset_expression.specs.declared.expression.CompiledExpr.{CompiledExpr}
-use Rattle.filterset_expression.specs.declared.query.BinaryQuery.{BinaryQuery}
-use Rattle.filterset_expression.specs.declared.query.TestQuery.{TestQuery}
+use Rattle.filterset_expression.specs.declared.query.{BinaryQuery.BinaryQuery, TestQuery.TestQuery}
 use Rattle.filterset_listing.specs.Asking.{Text}
 use Rattle.filterset_listing.specs.Groups.{Applies, Covers, IsAnswer, MayBeIn, applies}
 use Rattle.filterset_listing.specs.Overrides.{Finishes, Joins, MayApply, StepsOn, given_of}
-use Rattle.filterset_listing.specs.declared.groups.GroupOverride.{GroupOverride}
-use Rattle.filterset_listing.specs.declared.groups.Seen.{Seen}
+use Rattle.filterset_listing.specs.declared.groups.{GroupOverride.GroupOverride, Seen.Seen}
 use Rattle.filterset_listing.specs.declared.groups.Step.TheVariants.{Decided, Open}
-use Rattle.filterset_listing.specs.declared.groups.TestAnswer.{TestAnswer}
-use Rattle.filterset_listing.specs.declared.groups.TestAnswer.TheVariants.{Known, Unknown}
+use Rattle.filterset_listing.specs.declared.groups.TestAnswer.{TestAnswer, TheVariants.Known, TheVariants.Unknown}
 use Rattle.filterset_listing.specs.declared.groups.ToldOverride.{ToldOverride}
 
 -- two truth values are equal or not

@@ -1,13 +1,10 @@
 -- The values of a tree's nodes for each subject, as they are kept. Only contracts of private functions cite this.
 use Rattle.std.specs.Prelude.{◌≡◌, Bool, List, Option, map, zip}
-use Rattle.filterset_expression.specs.Connectives.{kleene}
-use Rattle.filterset_expression.specs.Meaning.{IsCompiled}
-use Rattle.filterset_expression.specs.declared.logic.Connective.{Connective}
+use Rattle.filterset_expression.specs.{Connectives.kleene, Meaning.IsCompiled, declared.logic.Connective.Connective}
 use Rattle.filterset_faults.specs.declared.span.SourceSpan.{SourceSpan}
 use Rattle.filterset_grammar.specs.Tree.{Tree, Not, Union, Join, Parens, Set}
 use Rattle.filterset_graph.specs.declared.package.PackageMetadata.{PackageMetadata}
-use Rattle.filterset_listing.specs.SubjectValues.{Basis, HasColumn}
-use Rattle.filterset_listing.specs.declared.columns.Columns.{Columns}
+use Rattle.filterset_listing.specs.{SubjectValues.Basis, SubjectValues.HasColumn, declared.columns.Columns.Columns}
 use Rattle.filterset_listing.specs.declared.columns.Columns.TheVariants.{Leaf, One', Two'}
 use Rattle.filterset_listing.specs.declared.subjects.Subject.{Subject}
 

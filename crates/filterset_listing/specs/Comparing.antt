@@ -1,18 +1,12 @@
 -- How two filtersets differ on a list.
 use Rattle.std.specs.Prelude.{◌≡◌, ◌↔◌, ◌⊎◌, ◌||◌, ◌++◌, Bool, true, false, not, IsTrue, List, [], ◌∷◌, Option, Some, is_none, map}
-use Rattle.std.specs.Borrow.{Bor}
-use Rattle.std.specs.List.{Any}
-use Rattle.filterset_listing.specs.Asking.{Text}
-use Rattle.filterset_listing.specs.Groups.{known_of}
-use Rattle.filterset_listing.specs.Listing.{one_of}
-use Rattle.filterset_listing.specs.Pickers.{Answers, Picker}
+use Rattle.std.specs.{Borrow.Bor, List.Any}
+use Rattle.filterset_listing.specs.{Asking.Text, Groups.known_of, Listing.one_of, Pickers.Answers, Pickers.Picker}
 use Rattle.filterset_listing.specs.declared.binary.AskedBinary.{AskedBinary}
-use Rattle.filterset_listing.specs.declared.groups.TestAnswer.{TestAnswer}
-use Rattle.filterset_listing.specs.declared.groups.TestAnswer.TheVariants as answers
-use Rattle.filterset_listing.specs.declared.groups.TestAnswer.TheVariants.{Known}
-use Rattle.filterset_listing.specs.declared.comparing.BinaryDifference.{BinaryDifference}
-use Rattle.filterset_listing.specs.declared.comparing.Part.{Part}
+use Rattle.filterset_listing.specs.declared.groups.TestAnswer.{TestAnswer, TheVariants.Known}
+use Rattle.filterset_listing.specs.declared.comparing.{BinaryDifference.BinaryDifference, Part.Part}
 use Rattle.filterset_listing.specs.declared.comparing.Part.TheVariants.{OnlyFirst, OnlySecond, Both, Unknown}
+use Rattle.filterset_listing.specs.declared.groups.TestAnswer.TheVariants as answers
 
 -- whether the two filtersets' answers are of the part
 abbrev pub is_of : Part → Option Bool → Option Bool → Bool

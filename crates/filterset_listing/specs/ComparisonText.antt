@@ -1,11 +1,8 @@
 -- How two filtersets differ, as text.
 use Rattle.std.specs.Prelude.{◌==◌, ◌&&◌, ◌||◌, ℕ, Bool, not, List, [], ◌++◌, length, codes, decimal, if◌then◌else◌}
 use Rattle.std.specs.List.{count_by, flat_map, list_any, sum_by}
-use Rattle.filterset_listing.specs.Asking.{Text}
-use Rattle.filterset_listing.specs.Comparing.{is_of, tests_in}
-use Rattle.filterset_listing.specs.ListText.{some_text}
-use Rattle.filterset_listing.specs.declared.comparing.BinaryDifference.{BinaryDifference}
-use Rattle.filterset_listing.specs.declared.comparing.Part.{Part}
+use Rattle.filterset_listing.specs.{Asking.Text, Comparing.is_of, Comparing.tests_in, ListText.some_text}
+use Rattle.filterset_listing.specs.declared.comparing.{BinaryDifference.BinaryDifference, Part.Part}
 use Rattle.filterset_listing.specs.declared.comparing.Part.TheVariants.{OnlyFirst, OnlySecond, Both, Unknown}
 
 -- a heading with a number, and below it the lines, if they are asked for

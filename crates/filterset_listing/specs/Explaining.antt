@@ -1,27 +1,19 @@
 -- What is said of the nodes of a tree.
 use Rattle.std.specs.Prelude.{◌≡◌, ℕ, Bool, true, false, not, cond, List, [], ◌∷◌, ◌++◌, Option, Some, None, is_none}
-use Rattle.std.specs.Borrow.{Bor}
-use Rattle.std.specs.List.{AllZip, list_all, list_any}
+use Rattle.std.specs.{Borrow.Bor, List.AllZip, List.list_all, List.list_any}
 use Rattle.filterset_faults.specs.declared.span.SourceSpan.{SourceSpan}
 use Rattle.filterset_graph.specs.declared.package.PackageMetadata.{PackageMetadata}
 use Rattle.filterset_grammar.specs.Tree.{Tree}
 use Rattle.filterset_language.specs.Views.{tree_of}
 use Rattle.filterset_expression.specs.declared.expression.CompiledExpr.{CompiledExpr}
-use Rattle.filterset_listing.specs.Asking.{Text}
-use Rattle.filterset_listing.specs.Columns.{Fits}
-use Rattle.filterset_listing.specs.Groups.{HangsOn}
-use Rattle.filterset_listing.specs.Nodes.{tree_nodes}
+use Rattle.filterset_listing.specs.{Asking.Text, Columns.Fits, Groups.HangsOn, Nodes.tree_nodes}
 use Rattle.filterset_listing.specs.NamedPackages.{NamesPackages}
 use Rattle.filterset_listing.specs.SubjectValues.{Basis, HasColumn, may_be}
-use Rattle.filterset_listing.specs.Values.{HasValue}
-use Rattle.filterset_listing.specs.declared.columns.Columns.{Columns}
-use Rattle.filterset_listing.specs.declared.explaining.ExplainedNode.{ExplainedNode}
-use Rattle.filterset_listing.specs.declared.explaining.Explanation.{Explanation}
-use Rattle.filterset_listing.specs.declared.explaining.candidate.Candidate.{Candidate}
-use Rattle.filterset_listing.specs.declared.explaining.candidate.Candidate.TheVariants.{Test}
+use Rattle.filterset_listing.specs.{Values.HasValue, declared.columns.Columns.Columns}
+use Rattle.filterset_listing.specs.declared.explaining.{ExplainedNode.ExplainedNode, Explanation.Explanation}
+use Rattle.filterset_listing.specs.declared.explaining.candidate.Candidate.{Candidate, TheVariants.Test}
 use Rattle.filterset_listing.specs.declared.explaining.packages.NamedPackages.{NamedPackages}
-use Rattle.filterset_listing.specs.declared.groups.GroupOverride.{GroupOverride}
-use Rattle.filterset_listing.specs.declared.subjects.Subject.{Subject}
+use Rattle.filterset_listing.specs.declared.{groups.GroupOverride.GroupOverride, subjects.Subject.Subject}
 
 -- the node with its depth, the value of its own tree, and the packages that it stands for
 abbrev pub IsExplained : (Tree SourceSpan → Option Bool → Type 0) → List PackageMetadata → (ℕ × Tree SourceSpan) → ExplainedNode → Type 0

@@ -2,13 +2,11 @@
 use Rattle.std.specs.Prelude.{ℕ, ◌-◌, zero, suc, Bool, true, false, [], ◌++◌, Option, Some, None, codes, decimal, option_map, unwrap_or}
 use Rattle.std.specs.List.{flat_map, join_by, repeat}
 use Rattle.filterset_graph.specs.Packages.{Text}
-use Rattle.filterset_grammar.specs.Grammar.{not_text, or_text, join_text}
-use Rattle.filterset_grammar.specs.Printing.{printed_leaf}
+use Rattle.filterset_grammar.specs.{Grammar.not_text, Grammar.or_text, Grammar.join_text, Printing.printed_leaf}
 use Rattle.filterset_grammar.specs.Tree.{Tree, Not, Union, Join, Parens, Set}
 use Rattle.filterset_language.specs.Views.{tree_of}
 use Rattle.filterset_listing.specs.ListText.{reason, some_text}
-use Rattle.filterset_listing.specs.declared.explaining.ExplainedNode.{ExplainedNode}
-use Rattle.filterset_listing.specs.declared.explaining.Explanation.{Explanation}
+use Rattle.filterset_listing.specs.declared.explaining.{ExplainedNode.ExplainedNode, Explanation.Explanation}
 use Rattle.filterset_listing.specs.declared.explaining.packages.NamedPackages.{NamedPackages}
 
 abbrev pub value_text : Option Bool → Text

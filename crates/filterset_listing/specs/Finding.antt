@@ -8,10 +8,8 @@ use Rattle.filterset_listing.specs.Columns.{Fits, first_of, second_of, values_of
 use Rattle.filterset_listing.specs.Needless.{Frame, MayDecide, Found, AreFound}
 use Rattle.filterset_listing.specs.SubjectValues.{Basis, may_be}
 use Rattle.filterset_listing.specs.Unmatched.{Unmatched, unmatched_in}
-use Rattle.filterset_listing.specs.declared.columns.Columns.{Columns}
-use Rattle.filterset_listing.specs.declared.needless.NeedlessOperand.{NeedlessOperand}
-use Rattle.filterset_listing.specs.declared.subjects.Subject.{Subject}
-use Rattle.filterset_listing.specs.declared.unmatched.UnmatchedPredicate.{UnmatchedPredicate}
+use Rattle.filterset_listing.specs.declared.{columns.Columns.Columns, needless.NeedlessOperand.NeedlessOperand}
+use Rattle.filterset_listing.specs.declared.{subjects.Subject.Subject, unmatched.UnmatchedPredicate.UnmatchedPredicate}
 
 -- the operands that are found, each with its constant
 abbrev pub found_of : List NeedlessOperand → List Found

@@ -1,14 +1,10 @@
 -- Which groups a test may be in, by overrides, and what a filterset answers about it.
 use Rattle.std.specs.Prelude.{◌≡◌, ◌↔◌, ◌⊎◌, Bool, true, IsTrue, List, [], ◌∷◌, Option, Some, None, MatchOption, codes}
-use Rattle.filterset_graph.specs.declared.package.BuildPlatform.{BuildPlatform}
-use Rattle.filterset_graph.specs.declared.package.BuildPlatform.TheVariants.{Host, Target}
+use Rattle.filterset_graph.specs.declared.package.BuildPlatform.{BuildPlatform, TheVariants.Host, TheVariants.Target}
 use Rattle.filterset_expression.specs.declared.expression.CompiledExpr.{CompiledExpr}
-use Rattle.filterset_expression.specs.declared.query.BinaryQuery.{BinaryQuery}
-use Rattle.filterset_expression.specs.declared.query.TestQuery.{TestQuery}
-use Rattle.filterset_listing.specs.Asking.{ExprPicks, Text}
-use Rattle.filterset_listing.specs.declared.groups.GroupOverride.{GroupOverride}
-use Rattle.filterset_listing.specs.declared.groups.TestAnswer.{TestAnswer}
-use Rattle.filterset_listing.specs.declared.groups.TestAnswer.TheVariants.{Known, Unknown}
+use Rattle.filterset_expression.specs.declared.query.{BinaryQuery.BinaryQuery, TestQuery.TestQuery}
+use Rattle.filterset_listing.specs.{Asking.ExprPicks, Asking.Text, declared.groups.GroupOverride.GroupOverride}
+use Rattle.filterset_listing.specs.declared.groups.TestAnswer.{TestAnswer, TheVariants.Known, TheVariants.Unknown}
 
 -- whether the override's platforms apply to what is built for this one; none if that is unknown
 abbrev pub applies : GroupOverride → BuildPlatform → Option Bool

@@ -1,20 +1,14 @@
 -- nextest's list as JSON, with what is picked of it.
 use Rattle.std.specs.Prelude.{◌≡◌, ◌≢◌, ◌≤◌, true, false, List, Some, None, Contains, codes, drop, take, unwrap_or}
-use Rattle.std.specs.Borrow.{Bor}
-use Rattle.std.specs.BTreeMap.{BTreeMap, get_by}
-use Rattle.std.specs.Cmp.Lexicographic.{slice_cmp}
-use Rattle.std.specs.List.{flat_map}
+use Rattle.std.specs.{Borrow.Bor, BTreeMap.BTreeMap, BTreeMap.get_by, Cmp.Lexicographic.slice_cmp, List.flat_map}
 use Rattle.std.specs.Ordering.{nat_cmp}
 use Rattle.serde_json.specs.Data.{Data, string, object, Members, no_members, member, put, depth}
-use Rattle.serde_json.specs.Find.{as_object}
-use Rattle.serde_json.specs.Read.{read, max_depth}
+use Rattle.serde_json.specs.{Find.as_object, Read.read, Read.max_depth}
 use Rattle.serde_json.specs.Written.{IsInOrder, compact_text, has_float}
-use Rattle.filterset_listing.specs.Asking.{Text}
-use Rattle.filterset_listing.specs.Listing.{tests_of, uncounted_of, unknown_of}
+use Rattle.filterset_listing.specs.{Asking.Text, Listing.tests_of, Listing.uncounted_of, Listing.unknown_of}
 use Rattle.filterset_listing.specs.ListText.{reason}
 use Rattle.filterset_listing.specs.declared.groups.TestAnswer.TheVariants.{Known, Unknown}
-use Rattle.filterset_listing.specs.declared.listing.BinaryPicks.{BinaryPicks}
-use Rattle.filterset_listing.specs.declared.listing.json.TestMark.{TestMark}
+use Rattle.filterset_listing.specs.declared.listing.{BinaryPicks.BinaryPicks, json.TestMark.TestMark}
 use Rattle.filterset_listing.specs.declared.listing.json.TestMark.TheVariants.{Asked, Beyond, Uncounted}
 
 -- a status with a reason, as nextest writes it

@@ -1,10 +1,8 @@
 -- What is picked of a list, as text.
 use Rattle.std.specs.Prelude.{◌==◌, ◌&&◌, ◌||◌, ℕ, zero, suc, Bool, not, List, [], ◌++◌, length, codes, decimal, if◌then◌else◌}
 use Rattle.std.specs.List.{count_by, flat_map, sum_by}
-use Rattle.filterset_listing.specs.Asking.{Text}
-use Rattle.filterset_listing.specs.Listing.{uncounted_of}
-use Rattle.filterset_listing.specs.declared.listing.BinaryPicks.{BinaryPicks}
-use Rattle.filterset_listing.specs.declared.listing.UnknownTest.{UnknownTest}
+use Rattle.filterset_listing.specs.{Asking.Text, Listing.uncounted_of}
+use Rattle.filterset_listing.specs.declared.listing.{BinaryPicks.BinaryPicks, UnknownTest.UnknownTest}
 
 -- tests are picked of the binary
 abbrev pub has_tests : BinaryPicks → Bool

@@ -2,10 +2,8 @@
 use Rattle.std.specs.Prelude.{◌≡◌, Bool, true, false, List, [], ◌∷◌, MatchBool, map}
 use Rattle.std.specs.Borrow.{Bor}
 use Rattle.filterset_expression.specs.declared.query.BinaryQuery.{BinaryQuery}
-use Rattle.filterset_listing.specs.Asking.{Text}
-use Rattle.filterset_listing.specs.declared.binary.AskedBinary.{AskedBinary}
-use Rattle.filterset_listing.specs.declared.groups.TestAnswer.{TestAnswer}
-use Rattle.filterset_listing.specs.declared.groups.TestAnswer.TheVariants.{Known, Unknown}
+use Rattle.filterset_listing.specs.{Asking.Text, declared.binary.AskedBinary.AskedBinary}
+use Rattle.filterset_listing.specs.declared.groups.TestAnswer.{TestAnswer, TheVariants.Known, TheVariants.Unknown}
 use Rattle.filterset_listing.specs.declared.listing.BinaryPicks.{BinaryPicks}
 
 -- the test, if the answer is yes

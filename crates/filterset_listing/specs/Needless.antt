@@ -1,17 +1,14 @@
 -- Operands that change nothing.
 use Rattle.std.specs.Prelude.{◌≡◌, ◌==◌, ◌&&◌, Bool, true, false, not, List, [], ◌∷◌, ◌++◌, All, IsTrue, MatchBool, Option, length}
-use Rattle.std.specs.List.{list_any}
-use Rattle.std.specs.Option.{unwrap_or}
+use Rattle.std.specs.{List.list_any, Option.unwrap_or}
 use Rattle.filterset_faults.specs.declared.span.SourceSpan.{SourceSpan}
 use Rattle.filterset_grammar.specs.Tree as tree
 use Rattle.filterset_grammar.specs.Tree.{Tree, Not, Union, Join, Parens, Set}
 use Rattle.filterset_grammar.specs.declared.operators.Joiner.{Joiner}
 use Rattle.filterset_grammar.specs.declared.operators.Joiner.TheVariants.{Both, Without, ExactlyOne}
-use Rattle.filterset_grammar.specs.declared.operators.NotOperator.{NotOperator}
-use Rattle.filterset_grammar.specs.declared.operators.OrOperator.{OrOperator}
+use Rattle.filterset_grammar.specs.declared.operators.{NotOperator.NotOperator, OrOperator.OrOperator}
 use Rattle.filterset_listing.specs.SubjectValues.{Basis, HasColumn, MaySay}
-use Rattle.filterset_listing.specs.Unmatched.{Unmatched}
-use Rattle.filterset_listing.specs.declared.subjects.Subject.{Subject}
+use Rattle.filterset_listing.specs.{Unmatched.Unmatched, declared.subjects.Subject.Subject}
 
 -- an operator over an operand, with its other operand; or parentheses
 pub data Frame : Type 0 where

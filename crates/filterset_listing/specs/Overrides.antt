@@ -1,23 +1,16 @@
 -- Overrides as they are laid out for evaluation, and the walk over them for a test.
 use Rattle.std.specs.Prelude.{◌≡◌, ◌≢◌, ◌↔◌, ◌⊎◌, Bool, true, false, IsTrue, All, List, [], ◌∷◌, Option, Some, None, MatchBool, cond, map}
 use Rattle.std.specs.Borrow.{Bor}
-use Rattle.filterset_expression.specs.Expression.{is_group}
-use Rattle.filterset_expression.specs.FlatExpressions.{IsFlat, has_step}
-use Rattle.filterset_expression.specs.declared.expression.CompiledExpr.{CompiledExpr}
-use Rattle.filterset_expression.specs.declared.expression.CompiledExpr.TheVariants.{Set}
+use Rattle.filterset_expression.specs.{Expression.is_group, FlatExpressions.IsFlat, FlatExpressions.has_step}
+use Rattle.filterset_expression.specs.declared.expression.CompiledExpr.{CompiledExpr, TheVariants.Set}
 use Rattle.filterset_expression.specs.declared.flat.FlatExpr.{FlatExpr}
 use Rattle.filterset_expression.specs.declared.leaves.FiltersetLeaf.TheVariants.{All as AllTests}
-use Rattle.filterset_expression.specs.declared.query.BinaryQuery.{BinaryQuery}
-use Rattle.filterset_expression.specs.declared.query.TestQuery.{TestQuery}
+use Rattle.filterset_expression.specs.declared.query.{BinaryQuery.BinaryQuery, TestQuery.TestQuery}
 use Rattle.filterset_listing.specs.Asking.{Text}
 use Rattle.filterset_listing.specs.Groups.{Applies, Covers, HangsOn, IsAnswer, MayBeIn, applies}
-use Rattle.filterset_listing.specs.declared.groups.FlatOverride.{FlatOverride}
-use Rattle.filterset_listing.specs.declared.groups.GroupOverride.{GroupOverride}
-use Rattle.filterset_listing.specs.declared.groups.Seen.{Seen}
-use Rattle.filterset_listing.specs.declared.groups.Step.{Step}
-use Rattle.filterset_listing.specs.declared.groups.Step.TheVariants.{Decided, Open}
-use Rattle.filterset_listing.specs.declared.groups.TestAnswer.{TestAnswer}
-use Rattle.filterset_listing.specs.declared.groups.TestAnswer.TheVariants.{Known, Unknown}
+use Rattle.filterset_listing.specs.declared.groups.{FlatOverride.FlatOverride, GroupOverride.GroupOverride, Seen.Seen}
+use Rattle.filterset_listing.specs.declared.groups.Step.{Step, TheVariants.Decided, TheVariants.Open}
+use Rattle.filterset_listing.specs.declared.groups.TestAnswer.{TestAnswer, TheVariants.Known, TheVariants.Unknown}
 use Rattle.filterset_listing.specs.declared.groups.ToldOverride.{ToldOverride}
 
 -- ---- laid out

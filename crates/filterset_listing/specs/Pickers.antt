@@ -3,14 +3,11 @@ use Rattle.std.specs.Prelude.{◌≡◌, ◌↔◌, Bool, true, false, List, Opt
 use Rattle.filterset_faults.specs.declared.span.SourceSpan.{SourceSpan}
 use Rattle.filterset_graph.specs.declared.package.PackageMetadata.{PackageMetadata}
 use Rattle.filterset_grammar.specs.Tree.{Tree}
-use Rattle.filterset_expression.specs.BinaryMeaning.{PossibleOfTree}
-use Rattle.filterset_expression.specs.Expression.{Possible}
-use Rattle.filterset_expression.specs.declared.expression.CompiledExpr.{CompiledExpr}
-use Rattle.filterset_expression.specs.declared.query.BinaryQuery.{BinaryQuery}
+use Rattle.filterset_expression.specs.{BinaryMeaning.PossibleOfTree, Expression.Possible}
+use Rattle.filterset_expression.specs.declared.{expression.CompiledExpr.CompiledExpr, query.BinaryQuery.BinaryQuery}
 use Rattle.filterset_listing.specs.Asking.{ExprPicks, Text, TreePicks}
+use Rattle.filterset_listing.specs.declared.groups.{GroupOverride.GroupOverride, TestAnswer.TestAnswer}
 use Rattle.filterset_listing.specs.Groups as groups
-use Rattle.filterset_listing.specs.declared.groups.GroupOverride.{GroupOverride}
-use Rattle.filterset_listing.specs.declared.groups.TestAnswer.{TestAnswer}
 
 -- a filterset: its answer about a test of a binary, and which values it can have for a binary, whatever tests that has
 pub record Picker : Type 1 where

@@ -5,12 +5,9 @@ use Rattle.filterset_faults.specs.declared.span.SourceSpan.{SourceSpan}
 use Rattle.filterset_graph.specs.declared.package.PackageMetadata.{PackageMetadata}
 use Rattle.filterset_grammar.specs.Tree.{Tree}
 use Rattle.filterset_expression.specs.Expression.{HoldsOfBinary, HoldsOfTest, formula, has_leaf, is_default, is_of_test}
-use Rattle.filterset_expression.specs.Formula.{TrueWhere}
-use Rattle.filterset_expression.specs.Meaning.{IsCompiled}
-use Rattle.filterset_expression.specs.Values.{CanBe}
+use Rattle.filterset_expression.specs.{Formula.TrueWhere, Meaning.IsCompiled, Values.CanBe}
 use Rattle.filterset_expression.specs.declared.expression.CompiledExpr.{CompiledExpr}
-use Rattle.filterset_expression.specs.declared.query.BinaryQuery.{BinaryQuery}
-use Rattle.filterset_expression.specs.declared.query.TestQuery.{TestQuery}
+use Rattle.filterset_expression.specs.declared.query.{BinaryQuery.BinaryQuery, TestQuery.TestQuery}
 use Rattle.filterset_listing.specs.Asking.{ExprCanPick, ExprPicks, Text, TreeCanPick, TreePicks, in_group}
 
 -- the default filter does so, unless it is ignored, and one of the filtersets does, if there are any

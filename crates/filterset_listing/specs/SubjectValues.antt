@@ -5,8 +5,7 @@ use Rattle.filterset_expression.specs.declared.expression.CompiledExpr.{Compiled
 use Rattle.filterset_faults.specs.declared.span.SourceSpan.{SourceSpan}
 use Rattle.filterset_grammar.specs.Tree.{Tree}
 use Rattle.filterset_graph.specs.declared.package.PackageMetadata.{PackageMetadata}
-use Rattle.filterset_listing.specs.Values.{HasValueIn}
-use Rattle.filterset_listing.specs.declared.subjects.Subject.{Subject}
+use Rattle.filterset_listing.specs.{Values.HasValueIn, declared.subjects.Subject.Subject}
 
 -- what the trees of one filterset are evaluated by
 pub record Basis : Type 0 where

@@ -2,15 +2,11 @@
 use Rattle.std.specs.Prelude.{◌≡◌, true, false, List, [], ◌∷◌, ◌++◌, All, Contains, Option, Some, None, map}
 use Rattle.std.specs.Borrow.{Bor}
 use Rattle.filterset_expression.specs.declared.expression.CompiledExpr.{CompiledExpr}
-use Rattle.filterset_expression.specs.declared.query.BinaryQuery.{BinaryQuery}
-use Rattle.filterset_expression.specs.declared.query.TestQuery.{TestQuery}
-use Rattle.filterset_listing.specs.Asking.{Text}
-use Rattle.filterset_listing.specs.Groups.{HangsOn, MayBeIn}
-use Rattle.filterset_listing.specs.declared.binary.AskedBinary.{AskedBinary}
-use Rattle.filterset_listing.specs.declared.explaining.candidate.Candidate.{Candidate}
+use Rattle.filterset_expression.specs.declared.query.{BinaryQuery.BinaryQuery, TestQuery.TestQuery}
+use Rattle.filterset_listing.specs.{Asking.Text, Groups.HangsOn, Groups.MayBeIn}
+use Rattle.filterset_listing.specs.declared.{binary.AskedBinary.AskedBinary, explaining.candidate.Candidate.Candidate}
 use Rattle.filterset_listing.specs.declared.explaining.candidate.Candidate.TheVariants.{Binary, Test}
-use Rattle.filterset_listing.specs.declared.groups.GroupOverride.{GroupOverride}
-use Rattle.filterset_listing.specs.declared.subjects.Subject.{Subject}
+use Rattle.filterset_listing.specs.declared.{groups.GroupOverride.GroupOverride, subjects.Subject.Subject}
 
 -- the groups are those that the test may be in
 abbrev pub AreGroupsOf : CompiledExpr → List GroupOverride → TestQuery → List Text → Type 0

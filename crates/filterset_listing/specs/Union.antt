@@ -1,11 +1,10 @@
 -- The union of filtersets.
-use Rattle.std.specs.Prelude.{◌≡◌, ◌⊎◌, List, [], ◌∷◌}
-use Rattle.std.specs.List.{Any}
+use Rattle.std.specs.{Prelude.◌≡◌, Prelude.◌⊎◌, Prelude.List, Prelude.[], Prelude.◌∷◌, List.Any}
 use Rattle.filterset_expression.specs.declared.logic.Connective.TheVariants.{Disjunction}
-use Rattle.filterset_expression.specs.Expression as compiled
 use Rattle.filterset_expression.specs.Expression.{CompiledLeaf, formula}
 use Rattle.filterset_expression.specs.Formula.{Compound, Formula, Leaf}
 use Rattle.filterset_expression.specs.declared.expression.CompiledExpr.{CompiledExpr}
+use Rattle.filterset_expression.specs.Expression as compiled
 
 -- one of the filtersets does so, or there is none
 abbrev pub AnyDoes : {A : Type 0} → (A → Type 0) → List A → Type 0

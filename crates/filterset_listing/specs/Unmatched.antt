@@ -1,12 +1,10 @@
 -- Predicates that match no test of a list.
 use Rattle.std.specs.Prelude.{◌≡◌, ◌==◌, ◌++◌, ◌∷◌, [], ℕ, Bool, false, List, Option, codes, decimal, if◌then◌else◌}
-use Rattle.std.specs.List.{count_by, list_any}
-use Rattle.std.specs.Option.{is_none, unwrap_or}
+use Rattle.std.specs.{List.count_by, List.list_any, Option.is_none, Option.unwrap_or}
 use Rattle.filterset_faults.specs.declared.span.SourceSpan.{SourceSpan}
 use Rattle.filterset_grammar.specs.Printing.{printed_leaf}
 use Rattle.filterset_grammar.specs.Tree.{Leaf, Tree, Not, Union, Join, Parens, Set}
-use Rattle.filterset_listing.specs.SubjectValues.{Basis, HasColumn}
-use Rattle.filterset_listing.specs.declared.subjects.Subject.{Subject}
+use Rattle.filterset_listing.specs.{SubjectValues.Basis, SubjectValues.HasColumn, declared.subjects.Subject.Subject}
 
 -- a predicate, and how many skipped binaries may have a test that it matches
 abbrev pub Unmatched : Type 0

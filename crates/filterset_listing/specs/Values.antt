@@ -5,13 +5,11 @@ use Rattle.filterset_graph.specs.declared.package.PackageMetadata.{PackageMetada
 use Rattle.filterset_grammar.specs.Tree.{Tree}
 use Rattle.filterset_expression.specs.BinaryMeaning.{IsDefiniteTree, IsUndecidedTree}
 use Rattle.filterset_expression.specs.declared.expression.CompiledExpr.{CompiledExpr}
-use Rattle.filterset_listing.specs.Asking.{Text, TreePicks}
-use Rattle.filterset_listing.specs.Groups.{IsAnswer, known_of}
+use Rattle.filterset_listing.specs.{Asking.Text, Asking.TreePicks, Groups.IsAnswer, Groups.known_of}
 use Rattle.filterset_listing.specs.Pickers.{Answers, tree_picker}
 use Rattle.filterset_listing.specs.declared.explaining.candidate.Candidate.{Candidate}
 use Rattle.filterset_listing.specs.declared.explaining.candidate.Candidate.TheVariants.{Binary, Test}
-use Rattle.filterset_listing.specs.declared.groups.GroupOverride.{GroupOverride}
-use Rattle.filterset_listing.specs.declared.groups.TestAnswer.{TestAnswer}
+use Rattle.filterset_listing.specs.declared.groups.{GroupOverride.GroupOverride, TestAnswer.TestAnswer}
 
 -- The tree has the value: of a binary the one that it takes whatever the answers to its `test` and `group` predicates
 -- are, and none where it takes both; of a test the answer about it, and none where that is unknown.

@@ -1,8 +1,7 @@
 //! The values of a tree's nodes for each subject.
 ghost use Rattle.std.specs.Prelude.{◌≡◌, IfOk, List, map, zip};
 ghost use Rattle.filterset_expression.specs.Connectives.{kleene, kleene_not};
-ghost use Rattle.filterset_expression.specs.Contexts.{default_of};
-ghost use Rattle.filterset_expression.specs.Meaning.{IsCompiled};
+ghost use Rattle.filterset_expression.specs.{Contexts.default_of, Meaning.IsCompiled};
 ghost use Rattle.filterset_faults.specs.declared.span.SourceSpan.{SourceSpan};
 ghost use Rattle.filterset_grammar.specs.Tree.{Tree};
 ghost use Rattle.filterset_graph.specs.declared.package.PackageMetadata.{PackageMetadata};

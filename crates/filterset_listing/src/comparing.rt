@@ -1,16 +1,12 @@
 //! How two filtersets differ on a list.
-ghost use Rattle.std.specs.Prelude.{◌≡◌, ◌++◌, IfOk, List, OnOk};
-ghost use Rattle.std.specs.List.{AllZip};
-ghost use Rattle.filterset_expression.specs.Contexts.{default_of};
-ghost use Rattle.filterset_expression.specs.FlatExpressions.{IsFlat};
-ghost use Rattle.filterset_expression.specs.Meaning.{IsCompiled};
+ghost use Rattle.std.specs.{Prelude.◌≡◌, Prelude.◌++◌, Prelude.IfOk, Prelude.List, Prelude.OnOk, List.AllZip};
+ghost use Rattle.filterset_expression.specs.{Contexts.default_of, FlatExpressions.IsFlat, Meaning.IsCompiled};
 ghost use Rattle.filterset_expression.specs.declared.expression.CompiledExpr.{CompiledExpr};
 ghost use Rattle.filterset_faults.specs.declared.span.SourceSpan.{SourceSpan};
 ghost use Rattle.filterset_graph.specs.declared.package.PackageMetadata.{PackageMetadata};
 ghost use Rattle.filterset_grammar.specs.Tree.{Tree};
 ghost use Rattle.filterset_listing.specs.Comparing.{IsBinaryDifference, is_of, tests_in};
-ghost use Rattle.filterset_listing.specs.Listing.{one_of};
-ghost use Rattle.filterset_listing.specs.Overrides.{AreFor, AreLaid, all_tests};
+ghost use Rattle.filterset_listing.specs.{Listing.one_of, Overrides.AreFor, Overrides.AreLaid, Overrides.all_tests};
 ghost use Rattle.filterset_listing.specs.Pickers.{expr_picker, tree_picker};
 ghost use Rattle.filterset_listing.specs.declared.comparing.Part as parts;
 ghost use Rattle.filterset_listing.specs.declared.groups.GroupOverride as declared;

@@ -1,8 +1,6 @@
 //! Why a filterset picks a test or not: the value of each node of its tree.
-ghost use Rattle.std.specs.Prelude.{◌≡◌, IfOk, OnOk, is_some, not};
-ghost use Rattle.std.specs.List.{list_all};
-ghost use Rattle.filterset_expression.specs.Contexts.{default_of};
-ghost use Rattle.filterset_expression.specs.Meaning.{IsCompiled};
+ghost use Rattle.std.specs.{Prelude.◌≡◌, Prelude.IfOk, Prelude.OnOk, Prelude.is_some, Prelude.not, List.list_all};
+ghost use Rattle.filterset_expression.specs.{Contexts.default_of, Meaning.IsCompiled};
 ghost use Rattle.filterset_language.specs.Views.{tree_of};
 ghost use Rattle.filterset_listing.specs.Columns.{values_of};
 ghost use Rattle.filterset_listing.specs.Explaining.{AddsNode, Explains, IsExplanation, has_unknown, shared_value};

@@ -1,7 +1,6 @@
 //! Groups of tests, by overrides: what a filterset answers about a test that may be in several groups.
 ghost use Rattle.std.specs.Prelude.{◌≡◌, ◌↔◌, IfOk, IsTrue, List};
-ghost use Rattle.filterset_expression.specs.Contexts.{default_of};
-ghost use Rattle.filterset_expression.specs.Expression.{Holds};
+ghost use Rattle.filterset_expression.specs.{Contexts.default_of, Expression.Holds};
 ghost use Rattle.filterset_expression.specs.FlatExpressions.{IsFlat, IsTold};
 ghost use Rattle.filterset_expression.specs.declared.expression.CompiledExpr as compiled;
 ghost use Rattle.filterset_listing.specs.Asking.{ExprPicks, in_group, is_no};

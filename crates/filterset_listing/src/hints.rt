@@ -1,14 +1,10 @@
 //! What a list of tests says of a filterset.
 ghost use Rattle.std.specs.Prelude.{◌≡◌, IfOk, List, map, true};
-ghost use Rattle.filterset_expression.specs.Contexts.{default_of};
-ghost use Rattle.filterset_expression.specs.Meaning.{IsCompiled};
+ghost use Rattle.filterset_expression.specs.{Contexts.default_of, Meaning.IsCompiled};
 ghost use Rattle.filterset_graph.specs.declared.package.PackageMetadata.{PackageMetadata};
 ghost use Rattle.filterset_language.specs.Views.{tree_of};
-ghost use Rattle.filterset_listing.specs.Columns.{Fits};
-ghost use Rattle.filterset_listing.specs.Finding.{found_of, unmatched_of};
-ghost use Rattle.filterset_listing.specs.Needless.{AreNeedless};
-ghost use Rattle.filterset_listing.specs.SubjectValues.{Basis};
-ghost use Rattle.filterset_listing.specs.Unmatched.{AreUnmatched};
+ghost use Rattle.filterset_listing.specs.{Columns.Fits, Finding.found_of, Finding.unmatched_of, Needless.AreNeedless};
+ghost use Rattle.filterset_listing.specs.{SubjectValues.Basis, Unmatched.AreUnmatched};
 
 use crate::columns::{Asked, Columns, columns_of};
 use crate::needless::{NeedlessOperand, find_needless};

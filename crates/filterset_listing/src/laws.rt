@@ -1,14 +1,12 @@
 //! Laws of hints. Each law is the contract of a function that does nothing.
 ghost use Rattle.std.specs.Prelude.{◌≡◌, ◌↔◌, ℕ, Bool, IsTrue, List};
-ghost use Rattle.filterset_expression.specs.declared.query.BinaryQuery.{BinaryQuery};
-ghost use Rattle.filterset_expression.specs.declared.query.TestQuery.{TestQuery};
+ghost use Rattle.filterset_expression.specs.declared.query.{BinaryQuery.BinaryQuery, TestQuery.TestQuery};
 ghost use Rattle.filterset_faults.specs.declared.span.SourceSpan.{SourceSpan};
 ghost use Rattle.filterset_grammar.specs.Tree.{Tree};
 ghost use Rattle.filterset_listing.specs.Asking.{TreePicks};
 ghost use Rattle.filterset_listing.specs.declared.explaining.candidate.Candidate.TheVariants.{Binary, Test};
 ghost use Rattle.filterset_listing.specs.Needless.{ChangesNothing, Frame, constant, placed};
-ghost use Rattle.filterset_listing.specs.SubjectValues.{Basis};
-ghost use Rattle.filterset_listing.specs.declared.subjects.Subject.{Subject};
+ghost use Rattle.filterset_listing.specs.{SubjectValues.Basis, declared.subjects.Subject.Subject};
 
 /// Proves that a constant changes nothing in place of an operand exactly if the whole tree picks the same tests with it: a
 /// test in its group, and each test that a binary whose tests are unknown may have, whatever its name and group are.

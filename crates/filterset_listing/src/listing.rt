@@ -1,16 +1,13 @@
 //! Which tests of a list a filterset picks.
 ghost use Rattle.std.specs.Prelude.{◌≡◌, ◌++◌, IfOk, List, OnOk};
 ghost use Rattle.std.specs.List.{AllZip, list_any};
-ghost use Rattle.filterset_expression.specs.Contexts.{default_of};
-ghost use Rattle.filterset_expression.specs.FlatExpressions.{IsFlat};
-ghost use Rattle.filterset_expression.specs.Meaning.{IsCompiled};
+ghost use Rattle.filterset_expression.specs.{Contexts.default_of, FlatExpressions.IsFlat, Meaning.IsCompiled};
 ghost use Rattle.filterset_expression.specs.declared.expression.CompiledExpr.{CompiledExpr};
 ghost use Rattle.filterset_faults.specs.declared.span.SourceSpan.{SourceSpan};
 ghost use Rattle.filterset_graph.specs.declared.package.PackageMetadata.{PackageMetadata};
 ghost use Rattle.filterset_grammar.specs.Tree.{Tree};
 ghost use Rattle.filterset_listing.specs.Asking.{ExprCanPick, ExprPicks, TreeCanPick, TreePicks};
-ghost use Rattle.filterset_listing.specs.Groups.{Says};
-ghost use Rattle.filterset_listing.specs.ListText.{has_unknown};
+ghost use Rattle.filterset_listing.specs.{Groups.Says, ListText.has_unknown};
 ghost use Rattle.filterset_listing.specs.Listing.{IsBinaryPicks, picked_by, tests_of, unknown_by, unknown_of};
 ghost use Rattle.filterset_listing.specs.Overrides.{AreLaid};
 ghost use Rattle.filterset_listing.specs.declared.groups.GroupOverride as declared;

@@ -1,10 +1,8 @@
 //! The tests that a runner runs, given filtersets and the default filter.
 ghost use Rattle.std.specs.Prelude.{◌≡◌, IfOk, MatchOption};
-ghost use Rattle.filterset_expression.specs.declared.logic.Connective.TheVariants.{Disjunction};
-ghost use Rattle.filterset_expression.specs.Expression.{formula};
+ghost use Rattle.filterset_expression.specs.{declared.logic.Connective.TheVariants.Disjunction, Expression.formula};
 ghost use Rattle.filterset_expression.specs.Formula.{Compound};
-ghost use Rattle.filterset_listing.specs.Union.{union_formula};
-ghost use Rattle.filterset_listing.specs.Selection.{IsSelection, MeansSelection};
+ghost use Rattle.filterset_listing.specs.{Union.union_formula, Selection.IsSelection, Selection.MeansSelection};
 
 use filterset_expression::nodes::combine;
 use filterset_expression::{CompiledExpr, Connective, FiltersetLeaf};

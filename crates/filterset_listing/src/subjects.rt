@@ -1,7 +1,6 @@
 //! What filtersets are asked about for a list of tests.
 ghost use Rattle.std.specs.Prelude.{◌≡◌, ◌++◌, IfOk, List, OnOk};
-ghost use Rattle.filterset_expression.specs.Contexts.{default_of};
-ghost use Rattle.filterset_expression.specs.FlatExpressions.{IsFlatOfTree};
+ghost use Rattle.filterset_expression.specs.{Contexts.default_of, FlatExpressions.IsFlatOfTree};
 ghost use Rattle.filterset_expression.specs.declared.expression.CompiledExpr as compiled;
 ghost use Rattle.filterset_faults.specs.declared.span.SourceSpan.{SourceSpan};
 ghost use Rattle.filterset_grammar.specs.Tree.{Tree};

@@ -1,7 +1,6 @@
 //! Predicates that match no test of a list.
 ghost use Rattle.std.specs.Prelude.{◌≡◌, ◌++◌, false, IfOk, OnOk};
-ghost use Rattle.std.specs.List.{count_by, list_any};
-ghost use Rattle.std.specs.Option.{is_none, unwrap_or};
+ghost use Rattle.std.specs.{List.count_by, List.list_any, Option.is_none, Option.unwrap_or};
 ghost use Rattle.filterset_language.specs.Views.{tree_of};
 ghost use Rattle.filterset_listing.specs.Finding.{unmatched_by, unmatched_of};
 

@@ -4,10 +4,8 @@ use Rattle.std.specs.declared.io.Error.{Error}
 use Rattle.filterset_drawing.specs.Columns.{Text}
 use Rattle.filterset_json.specs.declared.fault.RunFault.TheVariants.{Memory}
 use Rattle.filterset_loading.specs.Files.{IsFaultAt, IsFileFault, IsUnused, OrMemory}
-use Rattle.filterset_loading.specs.declared.fault.CommandFault.{CommandFault}
-use Rattle.filterset_loading.specs.declared.fault.CommandFault.TheVariants.{File, Run}
-use Rattle.filterset_loading.specs.declared.fault.FileFault.{FileFault}
-use Rattle.filterset_loading.specs.declared.fault.FileRole.{FileRole}
+use Rattle.filterset_loading.specs.declared.fault.CommandFault.{CommandFault, TheVariants.File, TheVariants.Run}
+use Rattle.filterset_loading.specs.declared.fault.{FileFault.FileFault, FileRole.FileRole}
 
 -- what follows from each fault but out of memory
 pub OrMemory-weaker : (P Q : CommandFault → Type 0) → ((fault : CommandFault) → P fault → Q fault) → (fault : CommandFault) → OrMemory P fault → OrMemory Q fault

@@ -1,21 +1,17 @@
 -- What files say of a configuration and its profiles, and of the platforms by which their overrides apply.
 use Rattle.std.specs.Prelude.{◌≡◌, ◌≢◌, ◌⊎◌, List, Option, Some, None, IsSomeAnd, Vec, alloc_error, map, string_bytes, Result, Ok, Err, codes, option_map}
-use Rattle.std.specs.Borrow.{Bor}
-use Rattle.std.specs.Global.{Global}
-use Rattle.std.specs.declared.io.Error.{Error}
-use Rattle.filterset_entries.specs.declared.entries.ConfiguredTexts.{ConfiguredTexts}
+use Rattle.std.specs.{Borrow.Bor, Global.Global, declared.io.Error.Error}
+use Rattle.filterset_entries.specs.{declared.entries.ConfiguredTexts.ConfiguredTexts, Checked.TextRow, Checked.text_row}
+use Rattle.filterset_entries.specs.{Entries.default_row, Profile.row_at}
 use Rattle.filterset_drawing.specs.Columns.{Text}
-use Rattle.filterset_configuration.specs.Places.{ArePlaces}
-use Rattle.filterset_configuration.specs.declared.place.Place.{Place}
-use Rattle.filterset_configuration.specs.declared.places.Places.{Places}
-use Rattle.filterset_configuration.specs.PlatformReading as cfgs
+use Rattle.filterset_configuration.specs.{Places.ArePlaces, declared.place.Place.Place, declared.places.Places.Places}
 use Rattle.filterset_configuration.specs.PlatformTrees.{setting_of}
-use Rattle.filterset_configuration.specs.declared.platforms.fault.CfgRefusal.TheVariants.{OutOfMemory}
-use Rattle.filterset_configuration.specs.declared.platforms.settings.Cfg.{Cfg}
+use Rattle.filterset_configuration.specs.declared.platforms.{fault.CfgRefusal.TheVariants.OutOfMemory, settings.Cfg.Cfg}
 use Rattle.filterset_configuration.specs.Lineages.{IsLineageFault, Lineage}
-use Rattle.filterset_configuration.specs.Profiles.{HasProfiles}
+use Rattle.filterset_configuration.specs.{Profiles.HasProfiles, declared.profiles.Profile.Profile}
+use Rattle.filterset_configuration.specs.declared.defaults.DefaultFilter.TheVariants.{All, Set, Unknown}
+use Rattle.filterset_configuration.specs.PlatformReading as cfgs
 use Rattle.filterset_configuration.specs.declared.fault.LineageFault.TheVariants as lineages
-use Rattle.filterset_configuration.specs.declared.profiles.Profile.{Profile}
 use Rattle.filterset_sources.specs.Configurations.{IsConfiguration, RefusesConfiguration, configured_rows}
 use Rattle.filterset_sources.specs.declared.configuration.Configuration.{Configuration}
 use Rattle.filterset_sources.specs.declared.configuration.ConfiguredFilterset.{ConfiguredFilterset}
@@ -23,23 +19,15 @@ use Rattle.filterset_sources.specs.declared.platforms.BuildPlatforms.{BuildPlatf
 use Rattle.filterset_sources.specs.declared.refusal.SourceRefusal.TheVariants.{WrongValue}
 use Rattle.nextest_filtering.specs.Groups.{AreGroups}
 use Rattle.filterset_loading.specs.Files.{BySource, IsContent, IsFaultAt, IsFileFault, name_of}
-use Rattle.filterset_loading.specs.declared.fault.CommandFault.{CommandFault}
-use Rattle.filterset_loading.specs.declared.fault.CommandFault.TheVariants as faults
-use Rattle.filterset_loading.specs.declared.fault.FileFault.{FileFault}
+use Rattle.filterset_loading.specs.declared.fault.{CommandFault.CommandFault, FileFault.FileFault}
 use Rattle.filterset_loading.specs.declared.fault.FileFault.TheVariants.{Refused, WrongCfg}
-use Rattle.filterset_loading.specs.declared.fault.FileRole.{FileRole}
+use Rattle.filterset_loading.specs.declared.{fault.FileRole.FileRole, profile.KnownPlatforms.KnownPlatforms}
+use Rattle.filterset_loading.specs.declared.profile.{ProfileRequest.ProfileRequest, ProfilesFile.ProfilesFile}
+use Rattle.filterset_loading.specs.declared.{request.WarningRequest.WarningRequest, profile.ChosenFilter.ChosenFilter}
+use Rattle.filterset_loading.specs.declared.fault.CommandFault.TheVariants as faults
 use Rattle.filterset_loading.specs.declared.fault.FileRole.TheVariants as roles
-use Rattle.filterset_loading.specs.declared.profile.KnownPlatforms.{KnownPlatforms}
-use Rattle.filterset_loading.specs.declared.profile.ProfileRequest.{ProfileRequest}
-use Rattle.filterset_loading.specs.declared.profile.ProfilesFile.{ProfilesFile}
-use Rattle.filterset_loading.specs.declared.request.WarningRequest.{WarningRequest}
-use Rattle.filterset_entries.specs.Checked.{TextRow, text_row}
-use Rattle.filterset_entries.specs.Entries.{default_row}
-use Rattle.filterset_entries.specs.Profile.{row_at}
 use Rattle.filterset_faults.specs.declared.kind.FiltersetKind.TheVariants.{DefaultFilter}
 use Rattle.filterset_configuration.specs.declared.defaults.DefaultFilter as defaults
-use Rattle.filterset_configuration.specs.declared.defaults.DefaultFilter.TheVariants.{All, Set, Unknown}
-use Rattle.filterset_loading.specs.declared.profile.ChosenFilter.{ChosenFilter}
 use Rattle.filterset_loading.specs.declared.profile.ChosenFilter.TheVariants as chosens
 
 -- the bytes of the file are this configuration, and its filtersets have these places in it

@@ -1,45 +1,33 @@
 -- What the words of the command line ask for, and what they lack; and for how many things standard input stands.
 use Rattle.std.specs.Prelude.{◌≡◌, ◌≢◌, ◌⊎◌, ◌<◌, ◌≤◌, ◌^◌, ℕ, Bool, IsTrue, true, false, List, [], ◌∷◌, Option, None, Some, codes, map, option_map, unwrap_or, ◌+◌, count_by}
-use Rattle.std.specs.Borrow.{Bor}
-use Rattle.std.specs.List.{list_any}
-use Rattle.std.specs.Str.{IsUtf8}
-use Rattle.std.specs.Str.Parse.{IsNumeral, digits_value, without_leading_plus}
-use Rattle.clap.specs.Simple.{subcommand_rows_of}
-use Rattle.clap.specs.Walk.{rows_of}
+use Rattle.std.specs.{Borrow.Bor, List.list_any, Str.IsUtf8}
+use Rattle.std.specs.{Str.Parse.IsNumeral, Str.Parse.digits_value, Str.Parse.without_leading_plus, Option.option_map_or}
+use Rattle.clap.specs.{Simple.subcommand_rows_of, Walk.rows_of}
 use Rattle.clap.specs.Words.{first_value, matched_of, one_text, raw_values, subcommand_name_of}
-use Rattle.clap.specs.declared.parser.matches.ArgMatches.{ArgMatches}
-use Rattle.clap.specs.declared.parser.matches.Found.{Found}
-use Rattle.filterset_entries.specs.declared.form.Form.{Form}
-use Rattle.filterset_entries.specs.declared.form.Form.TheVariants.{Drawn, Github, Json}
+use Rattle.clap.specs.declared.parser.matches.{ArgMatches.ArgMatches, Found.Found}
+use Rattle.filterset_entries.specs.declared.form.Form.{Form, TheVariants.Drawn, TheVariants.Github, TheVariants.Json}
 use Rattle.filterset_entries.specs.declared.question.Question.TheVariants as questions
-use Rattle.filterset_arguments.specs.Scripts.{name_of}
-use Rattle.filterset_arguments.specs.declared.shell.Shell.{Shell}
+use Rattle.filterset_arguments.specs.{Scripts.name_of, declared.shell.Shell.Shell}
 use Rattle.filterset_deciding.specs.declared.question.Question.{Question}
 use Rattle.filterset_deciding.specs.declared.question.Question.TheVariants.{AllAlike, AtLeastOne, AtMostOne, ExactlyOne}
 use Rattle.filterset_drawing.specs.Columns.{Text}
-use Rattle.filterset_drawing.specs.declared.color.Color.{Color}
-use Rattle.filterset_drawing.specs.declared.color.Color.TheVariants.{Always, Never}
+use Rattle.filterset_drawing.specs.declared.color.Color.{Color, TheVariants.Always, TheVariants.Never}
 use Rattle.filterset_faults.specs.declared.kind.FiltersetKind.{FiltersetKind}
 use Rattle.filterset_faults.specs.declared.kind.FiltersetKind.TheVariants as kinds
-use Rattle.filterset_json.specs.Runs.{AreLeft}
-use Rattle.filterset_json.specs.declared.fault.RunFault.TheVariants.{Read}
+use Rattle.filterset_json.specs.{Runs.AreLeft, declared.fault.RunFault.TheVariants.Read}
 use Rattle.filterset_sources.specs.declared.list.RunIgnored.{RunIgnored}
 use Rattle.filterset_sources.specs.declared.list.RunIgnored.TheVariants.{All, Default, Only}
 use Rattle.filterset_loading.specs.Files.{is_input}
-use Rattle.filterset_loading.specs.declared.fault.CommandFault.{CommandFault}
-use Rattle.filterset_loading.specs.declared.request.Asked.{Asked}
+use Rattle.filterset_loading.specs.declared.{fault.CommandFault.CommandFault, request.Asked.Asked}
 use Rattle.filterset_loading.specs.declared.request.Asked.TheVariants.{Explanation, Overrides, Question as Asking, Warnings}
 use Rattle.filterset_loading.specs.declared.fault.CommandFault.TheVariants.{Missing, MixedInput, NotText, Run, TwoInputs, WrongBudget}
-use Rattle.filterset_loading.specs.declared.profile.ProfileRequest.{ProfileRequest}
-use Rattle.filterset_loading.specs.declared.request.Request.{Request}
+use Rattle.filterset_loading.specs.declared.{profile.ProfileRequest.ProfileRequest, request.Request.Request}
 use Rattle.filterset_loading.specs.declared.request.Request.TheVariants.{Ask, Check, Decide, Format, Show, Simplify}
 use Rattle.filterset_loading.specs.declared.request.Task.{Task}
 use Rattle.filterset_loading.specs.declared.request.Task.TheVariants.{Answer, Complete, Serve}
-use Rattle.filterset_loading.specs.declared.request.Texts.{Texts}
-use Rattle.filterset_loading.specs.declared.request.Texts.TheVariants.{Given, StandardInput}
+use Rattle.filterset_loading.specs.declared.request.Texts.{Texts, TheVariants.Given, TheVariants.StandardInput}
 use Rattle.filterset_loading.specs.declared.request.WarningRequest.{WarningRequest}
 use Rattle.filterset_loading.specs.declared.workspace.WorkspacePaths.{WorkspacePaths}
-use Rattle.std.specs.Option.{option_map_or}
 
 -- how many of these paths stand for standard input
 abbrev pub inputs_of : List (Option (Bor Text)) → ℕ

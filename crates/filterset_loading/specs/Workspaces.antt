@@ -1,29 +1,19 @@
 -- What files say about a workspace.
 use Rattle.std.specs.Prelude.{◌≡◌, ◌≢◌, ◌⊎◌, List, All, Option, Some, alloc_error, [], None}
-use Rattle.std.specs.declared.io.Error.{Error}
-use Rattle.serde_json.specs.Data.{Data}
-use Rattle.serde_json.specs.Read.{read}
-use Rattle.serde_json.specs.View.{view}
+use Rattle.std.specs.{declared.io.Error.Error, Borrow.Bor}
+use Rattle.serde_json.specs.{Data.Data, Read.read, View.view}
 use Rattle.filterset_drawing.specs.Columns.{Text}
-use Rattle.filterset_graph.specs.Packages.{ids}
-use Rattle.filterset_graph.specs.declared.package.PackageMetadata.{PackageMetadata}
-use Rattle.filterset_sources.specs.Metadata.{IsMetadata, RefusesMetadata}
-use Rattle.filterset_sources.specs.Platforms.{WrongPlatforms}
+use Rattle.filterset_graph.specs.{Packages.ids, declared.package.PackageMetadata.PackageMetadata}
+use Rattle.filterset_sources.specs.{Metadata.IsMetadata, Metadata.RefusesMetadata, Platforms.WrongPlatforms}
 use Rattle.filterset_sources.specs.Refusals.{Refuses, RefusesJson}
 use Rattle.filterset_sources.specs.Suites.{IsOfPackage, IsTestList, WrongPackages, WrongTestList}
-use Rattle.filterset_sources.specs.declared.list.RunIgnored.{RunIgnored}
-use Rattle.filterset_sources.specs.declared.list.Suite.{Suite}
-use Rattle.filterset_sources.specs.declared.list.TestList.{TestList}
-use Rattle.filterset_sources.specs.declared.refusal.SourceRefusal.{SourceRefusal}
-use Rattle.filterset_sources.specs.declared.refusal.SourceRefusal.TheVariants.{OutOfMemory}
+use Rattle.filterset_sources.specs.declared.list.{RunIgnored.RunIgnored, Suite.Suite, TestList.TestList}
+use Rattle.filterset_sources.specs.declared.refusal.SourceRefusal.{SourceRefusal, TheVariants.OutOfMemory}
 use Rattle.filterset_loading.specs.Files.{BySource, IsContent, IsFaultAt, IsFileFault}
 use Rattle.filterset_loading.specs.declared.fault.CommandFault.{CommandFault}
-use Rattle.filterset_loading.specs.declared.fault.FileFault.{FileFault}
-use Rattle.filterset_loading.specs.declared.fault.FileFault.TheVariants.{Refused}
+use Rattle.filterset_loading.specs.declared.fault.FileFault.{FileFault, TheVariants.Refused}
+use Rattle.filterset_loading.specs.declared.workspace.{Workspace.Workspace, WorkspacePaths.WorkspacePaths}
 use Rattle.filterset_loading.specs.declared.fault.FileRole.TheVariants as roles
-use Rattle.filterset_loading.specs.declared.workspace.Workspace.{Workspace}
-use Rattle.filterset_loading.specs.declared.workspace.WorkspacePaths.{WorkspacePaths}
-use Rattle.std.specs.Borrow.{Bor}
 
 -- the bytes of the file are this JSON value
 abbrev pub IsJsonOf : Option Text → Data → Type 0

@@ -1,7 +1,6 @@
 //! The faults that end a command without an answer, and what they tell people to do next.
 ghost use Rattle.std.specs.Prelude.{◌≡◌, ◌≢◌, alloc_error};
-ghost use Rattle.std.specs.IoError.{error_kind};
-ghost use Rattle.std.specs.declared.io.ErrorKind.TheVariants.{OutOfMemory};
+ghost use Rattle.std.specs.{IoError.error_kind, declared.io.ErrorKind.TheVariants.OutOfMemory};
 ghost use Rattle.filterset_loading.specs.Files.{IsFaultAt, OrMemory};
 
 use crate::input::{INPUT_NAME, name_of};

@@ -1,8 +1,7 @@
 //! Standard input.
 ghost use Rattle.std.specs.Prelude.{◌≡◌, IfErr, IfOk, OnOk, string_bytes};
 ghost use Rattle.filterset_json.specs.Runs.{AreLeft};
-ghost use Rattle.filterset_loading.specs.Files.{OrMemory, is_input, name_of};
-ghost use Rattle.filterset_loading.specs.Words.{IsInputFault};
+ghost use Rattle.filterset_loading.specs.{Files.OrMemory, Files.is_input, Files.name_of, Words.IsInputFault};
 
 use crate::fault::CommandFault;
 use filterset_json::{Source, read_all};

@@ -1,8 +1,7 @@
 //! What files say of the profiles of a configuration, and of the platforms by which their overrides apply.
 ghost use Rattle.std.specs.Prelude.{◌≡◌, ◌≢◌, ◌⊎◌, IfErr, IfOk, IfSome, alloc_error, map, option_map, string_bytes};
 ghost use Rattle.filterset_entries.specs.Checked.{text_row};
-ghost use Rattle.filterset_configuration.specs.Lineages.{IsLineageFault, Lineage};
-ghost use Rattle.filterset_configuration.specs.Profiles.{HasProfiles};
+ghost use Rattle.filterset_configuration.specs.{Lineages.IsLineageFault, Lineages.Lineage, Profiles.HasProfiles};
 ghost use Rattle.filterset_sources.specs.Configurations.{IsConfiguration};
 ghost use Rattle.filterset_sources.specs.declared.configuration.Configuration as configurations;
 ghost use Rattle.nextest_filtering.specs.Groups.{IsKnown};

@@ -1,7 +1,6 @@
 //! What the words of the command line ask for.
 ghost use Rattle.std.specs.Prelude.{◌≡◌, ◌⊎◌, IfErr, IfOk, codes, map};
-ghost use Rattle.clap.specs.Words.{found_of};
-ghost use Rattle.clap.specs.declared.parser.matches.Found.{Found};
+ghost use Rattle.clap.specs.{Words.found_of, declared.parser.matches.Found.Found};
 ghost use Rattle.filterset_drawing.specs.Columns.{Text};
 ghost use Rattle.filterset_loading.specs.Words.{input_count, ArePathsAsked, AreTextsAsked, AreWarningsAsked, IsAsked, IsAskedBy, IsBudgetAsked, IsColorAsked, IsFaultOf, IsFormAsked, IsGivenFault, IsKindAsked, IsProfileAsked, IsQuestionAsked, IsRunIgnoredAsked, IsTask, IsTextAsked, IsUnasked, IsWordsFault, IsWorkspaceAsked, NamesNoShell, decision_name, given_texts, has_input};
 ghost use Rattle.filterset_arguments.specs.Scripts.{name_of};

@@ -3,9 +3,7 @@ ghost use Rattle.std.specs.Prelude.{All, IfErr, IfOk, IsSomeAnd};
 ghost use Rattle.serde_json.specs.View.{view};
 ghost use Rattle.filterset_graph.specs.Packages.{ids};
 ghost use Rattle.filterset_sources.specs.Suites.{IsOfPackage, IsTestList};
-ghost use Rattle.filterset_sources.specs.Metadata.{RefusesMetadata};
-ghost use Rattle.filterset_sources.specs.Platforms.{ArePlatforms};
-ghost use Rattle.filterset_sources.specs.Refusals.{RefusesJson};
+ghost use Rattle.filterset_sources.specs.{Metadata.RefusesMetadata, Platforms.ArePlatforms, Refusals.RefusesJson};
 ghost use Rattle.filterset_loading.specs.Files.{BySource, IsFileFault, OrMemory};
 ghost use Rattle.filterset_loading.specs.Workspaces.{ArePackagesIn, IsJsonOf, IsListIn, IsPlatformsFault, IsWorkspaceFault, IsWorkspaceIn, KnownPackages, RefusesList, RefusesValue};
 

@@ -1,27 +1,18 @@
 -- A pattern whose expression is a choice among texts has a match where one of them stands.
 use Rattle.std.proofs.Common.{◌≡◌, ◌⊎◌, ℕ, zero, suc, List, [], ◌∷◌, ◌++◌, All, length, take, drop, ◌<◌, refl, sym, ap, ◌∙◌, subst, inl, inr, ⊎_elim, arith, IsUtf8, IsCharBoundary, true≢false, take-append-drop}
-use Rattle.std.proofs.lemmas.Bool.{cases_Bool}
-use Rattle.std.proofs.lemmas.List.{get_or_default}
-use Rattle.std.proofs.lemmas.List.Elements.{All-head, All-tail}
-use Rattle.std.proofs.lemmas.Option.{none-some}
-use Rattle.std.proofs.Math.Seq.{drop-append_seam}
-use Rattle.regex_hir.specs.Re.{accept, attempt}
-use Rattle.regex_hir.specs.Meaning.{meaning}
-use Rattle.regex_hir.specs.declared.hir.Hir.{Hir}
-use Rattle.regex_hir.specs.Text.{has_bytes_at}
-use Rattle.regex_hir.proofs.AttemptLemmas.{attempt_complete}
-use Rattle.regex_hir.proofs.OptionLemmas.{option_cases, value_of_IsSome}
+use Rattle.std.proofs.lemmas.{Bool.cases_Bool, List.get_or_default, List.Elements.All-head, List.Elements.All-tail}
+use Rattle.std.proofs.{lemmas.Option.none-some, Math.Seq.drop-append_seam}
+use Rattle.regex_hir.specs.{Re.accept, Re.attempt, Meaning.meaning, declared.hir.Hir.Hir, Text.has_bytes_at}
+use Rattle.regex_hir.proofs.{AttemptLemmas.attempt_complete, OptionLemmas.option_cases, OptionLemmas.value_of_IsSome}
 use Rattle.regex_hir.proofs.TextLemmas.{has_bytes_at_from, has_bytes_at_parts}
 use Rattle.regex_literal.specs.Find.{OccursAt, AnyOccursAt, FirstNeedleAt, needle_at}
 use Rattle.regex_literal.proofs.lemmas.FindLemmas.{OccursAt-part}
-use Rattle.regex_extract.specs.Exact.{IsChoiceOf, end_of}
-use Rattle.regex_extract.specs.Needles.{AreFilled}
+use Rattle.regex_extract.specs.{Exact.IsChoiceOf, Exact.end_of, Needles.AreFilled}
 use Rattle.regex_extract.proofs.NeedlesLemmas.{OccursAt-of_drop}
 use Rattle.regex.specs.Patterns.{Re}
 use Rattle.filterset_matchers.proofs.PatternLemmas.{HasMatch-of_tree, Matches-of_attempt, IsPattern-of_tree, are_bytes}
 use Rattle.filterset_matchers.proofs.PlainLemmas.{begins_a_character}
-use Rattle.filterset_matchers.specs.Compiled.{IsReadAs}
-use Rattle.filterset_matchers.specs.Pattern.{HasOneOf, IsChoice, MatchesSomewhere}
+use Rattle.filterset_matchers.specs.{Compiled.IsReadAs, Pattern.HasOneOf, Pattern.IsChoice, Pattern.MatchesSomewhere}
 
 -- ---- whether a needle occurs at a place
 

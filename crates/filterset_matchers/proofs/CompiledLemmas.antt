@@ -1,33 +1,23 @@
 -- Where the NFA of a compiled pattern finds something, the pattern has a match.
 use Rattle.std.proofs.Common.{◌≡◌, ◌↔◌, ℕ, ◌<◌, ◌≤◌, List, Bool, true, false, Option, Some, None, IsTrue, IsSome, IfSome, is_some, option_map, length, All, get_or, refl, sym, ap, ◌∙◌, subst, ⊎_elim, arith, IsUtf8, true≢false}
-use Rattle.std.proofs.Math.Logic.{∥∥₁_elim}
-use Rattle.std.proofs.lemmas.Str.{IsCharBoundary-start}
-use Rattle.regex_hir.specs.Find.{find}
-use Rattle.regex_hir.specs.Matches.{IsMinLen}
-use Rattle.regex_hir.specs.Meaning.{meaning}
-use Rattle.regex_hir.specs.Re.{Trace, accept, attempt}
+use Rattle.std.proofs.{Math.Logic.∥∥₁_elim, lemmas.Str.IsCharBoundary-start}
+use Rattle.regex_hir.specs.{Find.find, Matches.IsMinLen, Meaning.meaning, Re.Trace, Re.accept, Re.attempt}
 use Rattle.regex_hir.proofs.AttemptLemmas.{attempt_complete}
 use Rattle.regex_hir.proofs.FindLemmas.{IsFirst-of_first_between, find_complete, find_sound, first_between_cong}
 use Rattle.regex_hir.proofs.OptionLemmas.{IsSome-of_value, option_cases, value_of_IsSome}
-use Rattle.regex_nfa.specs.Paths.{Accepts}
-use Rattle.regex_nfa.specs.Run.{find_in, run}
-use Rattle.regex_nfa.specs.declared.nfa.Nfa.{Nfa}
-use Rattle.regex_nfa.proofs.PathsLemmas.{no_path_of_run_none}
-use Rattle.regex_nfa.proofs.SearchLemmas.{run_unanchored}
+use Rattle.regex_nfa.specs.{Paths.Accepts, Run.find_in, Run.run, declared.nfa.Nfa.Nfa}
+use Rattle.regex_nfa.proofs.{PathsLemmas.no_path_of_run_none, SearchLemmas.run_unanchored}
 use Rattle.regex_compile.specs.Implements.{HasPaths, Implements}
 use Rattle.regex_dfa.specs.Search.{IsEnd, IsLeast, end_from, entry}
-use Rattle.regex_dfa.specs.declared.forward.End.{End}
-use Rattle.regex_dfa.specs.declared.reverse.Start.{Start}
+use Rattle.regex_dfa.specs.declared.{forward.End.End, reverse.Start.Start}
 use Rattle.regex_extract.specs.Bounds.{IsAnchored}
 use Rattle.regex_vm.specs.Found.{first_match}
-use Rattle.regex.specs.Patterns.{Matches, Re}
-use Rattle.regex.specs.Writes.{HasTextParts}
+use Rattle.regex.specs.{Patterns.Matches, Patterns.Re, Writes.HasTextParts}
 use Rattle.regex.proofs.Utf8Lemmas.{find_str_of_filled}
 use Rattle.filterset_matchers.proofs.PatternLemmas.{HasMatch-of_tree, Matches-of_attempt, are_bytes, found_exactly}
 use Rattle.filterset_matchers.specs.Compiled.{IsCompiledOf, IsPlaceOf, told_by_end, told_by_start}
 use Rattle.filterset_matchers.specs.Pattern.{HasMatch, MatchesSomewhere}
-use Rattle.filterset_matchers.specs.declared.matcher.compiled.Compiled.{Compiled}
-use Rattle.filterset_matchers.specs.declared.matcher.compiled.Place.{Place}
+use Rattle.filterset_matchers.specs.declared.matcher.compiled.{Compiled.Compiled, Place.Place}
 use Rattle.filterset_matchers.specs.declared.matcher.compiled.Place.TheVariants as place
 
 -- ---- where the expression matches

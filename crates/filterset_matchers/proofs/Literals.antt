@@ -1,12 +1,8 @@
 -- Literals of globs, and the texts that they stand in.
 use Rattle.std.proofs.Common.{◌≡◌, ◌⊎◌, inl, inr, ℕ, List, [], ◌∷◌, ◌++◌, refl, sym, ap, subst, ◌∙◌, append_assoc, IsUtf8}
-use Rattle.std.proofs.lemmas.List.{append-nil}
-use Rattle.std.proofs.lemmas.Str.{encodes-append, encodes-chars}
-use Rattle.std.specs.Prelude.{chars, encode_utf8, encode_utf8_all}
-use Rattle.std.specs.Str.Iter.{HasSubslice}
-use Rattle.filterset_glob.specs.declared.token.GlobToken.{GlobToken}
-use Rattle.filterset_glob.specs.Glob.{Glob}
-use Rattle.filterset_glob.specs.Grammar.{GlobText}
+use Rattle.std.proofs.lemmas.{List.append-nil, Str.encodes-append, Str.encodes-chars}
+use Rattle.std.specs.{Prelude.chars, Prelude.encode_utf8, Prelude.encode_utf8_all, Str.Iter.HasSubslice}
+use Rattle.filterset_glob.specs.{declared.token.GlobToken.GlobToken, Glob.Glob, Grammar.GlobText}
 use Rattle.filterset_glob.specs.Matching.{Matches, MatchesToken}
 use Rattle.filterset_glob.specs.Tokens.{Tokens, literal, token_of, tokens_of}
 use Rattle.filterset_glob.proofs.SpelledIsRead.{one_list}

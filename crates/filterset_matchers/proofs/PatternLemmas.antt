@@ -1,32 +1,21 @@
 -- From what `regex` promises to what a pattern's text alone says.
 use Rattle.std.proofs.Common.{◌≡◌, ◌≢◌, ℕ, ◌<◌, List, length, All, Option, Some, None, true, false, Bool, IsTrue, IsSome, IsSomeAnd, IfSome, IfErr, IsErrAnd, Result, Ok, Err, is_some, ⊎_elim, cond, get_or, refl, sym, ap, ◌∙◌, subst, arith, ◌↔◌}
-use Rattle.std.proofs.lemmas.List.{get_or_default}
-use Rattle.std.proofs.lemmas.Option.{same_Some}
+use Rattle.std.proofs.lemmas.{List.get_or_default, Option.same_Some}
 use Rattle.std.specs.Str.{chars}
-use Rattle.regex_hir.specs.Re.{Trace, accept, attempt}
-use Rattle.regex_hir.proofs.AttemptLemmas.{attempt_sound}
+use Rattle.regex_hir.proofs.{AttemptLemmas.attempt_sound, FindLemmas.IsFirst-of_first_between}
 use Rattle.regex_hir.proofs.OptionLemmas.{value_of_IsSome}
-use Rattle.regex_hir.proofs.FindLemmas.{IsFirst-of_first_between}
-use Rattle.regex_hir.specs.Text.{is_boundary}
-use Rattle.regex_hir.specs.Meaning.{meaning}
-use Rattle.regex_hir.specs.declared.hir.Hir.{Hir}
-use Rattle.regex_syntax.specs.Captures.{SameCaptures}
-use Rattle.regex_syntax.specs.Grammar.{Names, read}
-use Rattle.regex_syntax.specs.Verdict.{Refuses}
-use Rattle.regex_syntax.specs.declared.error.Error as parser
+use Rattle.regex_hir.specs.{Meaning.meaning, Re.Trace, Re.accept, Re.attempt, Text.is_boundary, declared.hir.Hir.Hir}
+use Rattle.regex_syntax.specs.{Captures.SameCaptures, Grammar.Names, Grammar.read, Verdict.Refuses}
 use Rattle.regex_syntax.specs.declared.error.ErrorKind.{ErrorKind}
+use Rattle.regex_syntax.proofs.{CapturesLemmas.spans, CapturesLemmas.find_str_alike, Written.is_some-option_map}
+use Rattle.regex_syntax.specs.declared.error.Error as parser
 use Rattle.regex_syntax.specs.declared.error.ErrorKind.TheVariants as kinds
 use Rattle.regex.specs.declared.error.Error.{Error}
 use Rattle.regex.specs.declared.error.Error.TheVariants.{Syntax, CompiledTooBig, OutOfMemory}
-use Rattle.regex.specs.Failures.{IsOfParser, IsRightKind}
-use Rattle.regex.specs.Sources.{IsRefusal}
-use Rattle.regex_syntax.proofs.CapturesLemmas.{spans, find_str_alike}
-use Rattle.regex_syntax.proofs.Written.{is_some-option_map}
+use Rattle.regex.specs.{Failures.IsOfParser, Failures.IsRightKind, Sources.IsRefusal}
 use Rattle.regex.specs.Patterns.{Matches, Re, find_str, Reads, default_config}
-use Rattle.regex.specs.Strings.{regex_pattern}
-use Rattle.regex.specs.declared.string.regex.Regex.{Regex}
-use Rattle.regex.proofs.ForCallers.{find_str_sound, find_str_complete}
-use Rattle.regex.proofs.Utf8Lemmas.{IsCharBoundary-of_test}
+use Rattle.regex.specs.{Strings.regex_pattern, declared.string.regex.Regex.Regex}
+use Rattle.regex.proofs.{ForCallers.find_str_sound, ForCallers.find_str_complete, Utf8Lemmas.IsCharBoundary-of_test}
 use Rattle.filterset_matchers.specs.Compiled.{IsReadAs}
 use Rattle.filterset_matchers.specs.Pattern.{IsPattern, MatchesSomewhere, HasMatch, IsBuiltOf, IsErrorFor, IsSearchedFor}
 use Rattle.filterset_matchers.specs.declared.matcher.pattern.Searched.{Searched}

@@ -2,15 +2,11 @@
 use Rattle.std.proofs.Common.{◌≡◌, ◌↔◌, ◌+◌, ℕ, List, [], ◌∷◌, ◌++◌, true, false, inl, inr, Option, Some, None, option_map, slice_get, add-zero, length, take, drop, get_or, ◌<◌, refl, sym, ap, ◌∙◌, subst, arith, encode_utf8_all}
 use Rattle.std.proofs.lemmas.List.{get_or-drop, length-append, take-append-drop}
 use Rattle.std.proofs.lemmas.Option.{same_Some, slice_get-get_or}
-use Rattle.std.proofs.Math.Seq.{drop-append_seam}
-use Rattle.std.proofs.lemmas.Str.{IsCharBoundary-start}
-use Rattle.std.specs.Str.{chars, IsCharBoundary, IsUtf8}
-use Rattle.std.specs.Str.Iter.{HasSubslice}
-use Rattle.regex_hir.proofs.OptionLemmas.{value_of_IsSome}
-use Rattle.regex_hir.proofs.TextLemmas.{has_bytes_at_from, has_bytes_at_parts}
+use Rattle.std.proofs.{Math.Seq.drop-append_seam, lemmas.Str.IsCharBoundary-start}
+use Rattle.std.specs.Str.{chars, IsCharBoundary, IsUtf8, Iter.HasSubslice}
+use Rattle.regex_hir.proofs.{OptionLemmas.value_of_IsSome, TextLemmas.has_bytes_at_from, TextLemmas.has_bytes_at_parts}
 use Rattle.regex_hir.specs.Text.{is_boundary}
-use Rattle.regex_syntax.specs.Grammar.{read}
-use Rattle.regex_syntax.specs.Verdict.{ReadsAsText}
+use Rattle.regex_syntax.specs.{Grammar.read, Verdict.ReadsAsText}
 use Rattle.regex.specs.Patterns.{literal, default_config}
 use Rattle.regex.proofs.Utf8Lemmas.{IsCharBoundary-of_test, test_of_IsCharBoundary}
 use Rattle.filterset_matchers.proofs.PatternLemmas.{IsSomeAnd-map, IsSomeAnd-both, found_alike, found_exactly}

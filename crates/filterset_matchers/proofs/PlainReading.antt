@@ -2,26 +2,18 @@
 -- of escaped texts (`EscapeLemmas`); here a character may be escaped or not.
 use Rattle.std.proofs.Common.{ℕ, ◌≤◌, ◌<◌, ◌⊎◌, ◌≡◌, ◌+◌, ◌-◌, ◌*◌, ◌==◌, ◌&&◌, ◌∷◌, ◌++◌, [], Bool, true, false, not, List, Option, Some, None, IsSomeAnd, map, option_map, length, nat_lt, chars, encode_utf8, IsUtf8, if◌then◌else◌, refl, sym, ap, ◌∙◌, subst, ⊎_elim, arith, ne_eqb, true≢false, append-nil, append_assoc, zero-add}
 use Rattle.std.proofs.lemmas.Bool.{cases_Bool, cond-false, and_left, and_right, cond_both, and_parts, and_from}
-use Rattle.std.proofs.lemmas.Bool.Decides.{nat_tests}
-use Rattle.std.proofs.lemmas.Str.{scalars-chars}
+use Rattle.std.proofs.lemmas.{Bool.Decides.nat_tests, Option.same_Some as some_same, Str.scalars-chars}
 use Rattle.std.specs.Char.{is_digit, is_ascii, is_ascii_alphanumeric}
-use Rattle.std.proofs.lemmas.Option.{same_Some as some_same}
 use lib.Utf8.{scalars, encodes}
-use Rattle.regex_hir.specs.Meaning.{cat_all, alt_all}
-use Rattle.regex_hir.specs.Re.{Re, literal}
+use Rattle.regex_hir.specs.{Meaning.cat_all, Meaning.alt_all, Re.Re, Re.literal}
 use Rattle.regex_syntax.proofs.BranchLemmas.{ends_branch, Read, repetitions_end, join_after, branch_ends, branch_goes, more_parts, group_inside, join_parts_is, branches_go, more_branches, join_ends}
-use Rattle.regex_syntax.proofs.EscapeLemmas.{itself, literals}
-use Rattle.regex_syntax.proofs.LikenessLaws.{alike_of_same}
-use Rattle.regex_syntax.proofs.ReadingLemmas.{skip-false}
-use Rattle.regex_syntax.proofs.TreeLaws.{◌then◌, alt-fail}
-use Rattle.regex_syntax.specs.Brackets.{Nested, join, deepest}
-use Rattle.regex_syntax.specs.Captures.{SameCaptures}
-use Rattle.regex_syntax.specs.declared.Config.{Config}
+use Rattle.regex_syntax.proofs.{EscapeLemmas.itself, EscapeLemmas.literals, LikenessLaws.alike_of_same}
+use Rattle.regex_syntax.proofs.{ReadingLemmas.skip-false, TreeLaws.◌then◌, TreeLaws.alt-fail}
+use Rattle.regex_syntax.specs.{Brackets.Nested, Brackets.join, Brackets.deepest, Captures.SameCaptures}
 use Rattle.regex_syntax.specs.Escapes.{is_verbose, escape, character, one_letter}
 use Rattle.regex_syntax.specs.Grammar.{Names, Place, atom, piece_meaning, char_meaning, item, with_repetitions, items, read, names_below, join_parts, branches, group_count, has_group}
 use Rattle.regex_syntax.specs.Reading.{Text, is_at, first, skip, ◌>>=◌}
-use Rattle.regex_syntax.specs.Sets.{verbatim}
-use Rattle.regex_syntax.specs.Verdict.{ReadsAsText}
+use Rattle.regex_syntax.specs.{Sets.verbatim, Verdict.ReadsAsText, declared.Config.Config}
 use Rattle.filterset_matchers.specs.Pattern.{has_meaning, is_escapable, plain_from}
 
 -- ---- a plain pattern, piece by piece

@@ -1,11 +1,8 @@
 -- Runs of characters that print as they are.
 use Rattle.std.proofs.Common.{◌≡◌, ◌∙◌, ◌<◌, ◌≤◌, ℕ, arith, List, [], ◌∷◌, ◌++◌, refl, sym, ap, subst, take, drop, length, length-append, append_assoc, append-nil, IsUtf8, IsAscii, IsCharBoundary}
 use Rattle.std.specs.Prelude.{All, ◌==◌, chars, codes, encode_utf8, encode_utf8_all, Some, None}
-use Rattle.std.specs.List.{flat_map}
-use Rattle.std.specs.Str.{NonePass}
-use Rattle.std.specs.Str.Pattern.{FindsChar}
-use Rattle.std.proofs.lemmas.Grind.{flat_map-append}
-use Rattle.std.proofs.lemmas.List.{take-append-drop}
+use Rattle.std.specs.{List.flat_map, Str.NonePass, Str.Pattern.FindsChar}
+use Rattle.std.proofs.lemmas.{Grind.flat_map-append, List.take-append-drop}
 use Rattle.std.proofs.lemmas.List.Elements.{All-head, All-tail, All-weaker}
 use Rattle.std.proofs.lemmas.Str.{IsCharBoundary-from_take, IsUtf8-drop, IsUtf8-from_ascii, IsUtf8-past_char, chars-IsAscii, chars-append, chars-nil, chars_from_encodes, chars_past_char, encode_ascii, encodes-append, encodes-chars}
 use Rattle.std.proofs.lemmas.Str.Ascii.{IsAscii-from_all}

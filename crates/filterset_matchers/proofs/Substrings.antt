@@ -2,14 +2,12 @@
 use Rattle.std.proofs.Common.{◌≡◌, ◌↔◌, ◌+◌, ◌-◌, ◌<◌, ◌≤◌, ◌^◌, ◌%◌, ℕ, List, [], ◌∷◌, ◌++◌, Bool, true, false, cond, map, get_or, bit_and, length, take, drop, replicate, refl, ap, sym, ◌∙◌, arith, w8, w64, ⊎_elim, eqb, eqb-true, eq-eqb}
 use Rattle.std.specs.Int.{bit_at, leading_zeros, trailing_zeros}
 use Rattle.std.specs.Simd.Lanes.{zip2, mask_l, top}
-use mir.Val.{bits, hbits}
 use Rattle.std.proofs.Math.Seq.{take-append_seam, drop-append_seam}
 use Rattle.std.proofs.lemmas.List.{get_or-map, get_or-take, get_or-drop, take-append-drop, length-append}
 use Rattle.std.proofs.lemmas.Nat.Bits.{bit_at_above, bit_at_and, bit_at-trailing_zeros, bit_at-zero}
-use Rattle.std.proofs.lemmas.Nat.{leading_length}
-use Rattle.std.proofs.lemmas.Bool.{cases_lt}
-use Rattle.std.proofs.lemmas.Simd.{bitmask_splat, bit_mask_l}
+use Rattle.std.proofs.lemmas.{Nat.leading_length, Bool.cases_lt, Simd.bitmask_splat, Simd.bit_mask_l}
 use Rattle.std.specs.Str.Iter.{HasSubslice}
+use mir.Val.{bits, hbits}
 pub use Rattle.std.proofs.lemmas.List.{nil_from_length as empty_of}
 use Rattle.filterset_matchers.specs.Substring.{StandsAt}
 

@@ -1,13 +1,11 @@
 -- A tree that was read for text matches whole characters alone.
 use Rattle.std.proofs.Common.{◌≡◌, ◌≤◌, ℕ, [], true, map, refl, sym, ap, ◌∙◌, subst, true≢false}
-use Rattle.regex_hir.specs.Re.{Re}
-use Rattle.regex_hir.specs.Meaning.{meaning, node_meaning, cat_all, alt_all}
+use Rattle.regex_hir.specs.{Re.Re, Meaning.meaning, Meaning.node_meaning, Meaning.cat_all, Meaning.alt_all}
 use Rattle.regex_hir.specs.declared.hir.Hir.{Hir, Empty, Literal, Bytes, Chars, Look, Repetition', Capture', Concat', Alternation', Row_of-Hir, end_of-Hir, more_of-Hir, items-the_row-Hir, items_shown-the_row-Hir-0, map-Hir, fold_out-Hir}
 use Rattle.regex_hir.specs.declared.hir.Hir.TheVariants.{outs-Concat', outs-Alternation'}
 use Rattle.regex_hir.proofs.MeaningLemmas.{meaning-Empty, meaning-Literal, meaning-Bytes, meaning-Chars, meaning-Look, meaning-Repetition, meaning-Capture}
 use Rattle.regex_syntax.specs.WellFormed.{IsWellFormed, AreWellFormed}
-use Rattle.regex.specs.Patterns.{in_ranges}
-use Rattle.regex.specs.Writes.{HasTextParts}
+use Rattle.regex.specs.{Patterns.in_ranges, Writes.HasTextParts}
 use Rattle.regex.proofs.WritesLemmas.{HasTextParts-repeat}
 
 -- no byte lies in no range

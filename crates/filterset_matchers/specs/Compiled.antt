@@ -1,24 +1,16 @@
 -- Compiled patterns, and the places of their matches.
 use Rattle.std.specs.Prelude.{◌≡◌, ℕ, ◌≤◌, Bool, List, Option, Some, None, IsSomeAnd, true, false, chars, string_bytes}
 use Rattle.std.specs.Str.Iter.{HasSubslice}
-use Rattle.regex_hir.specs.Meaning.{meaning}
-use Rattle.regex_hir.specs.declared.hir.Hir.{Hir}
-use Rattle.regex_hir.specs.Matches.{IsMinLen}
+use Rattle.regex_hir.specs.{Meaning.meaning, declared.hir.Hir.Hir, Matches.IsMinLen}
 use Rattle.regex_compile.specs.Implements.{Implements, HasPaths}
-use Rattle.regex_dfa.specs.Search.{IsForwardFor, IsReverseFor}
-use Rattle.regex_dfa.specs.declared.dfa.Dfa.{Dfa}
+use Rattle.regex_dfa.specs.{Search.IsForwardFor, Search.IsReverseFor, declared.dfa.Dfa.Dfa, declared.forward.End.End}
+use Rattle.regex_dfa.specs.declared.{forward.Forward.Forward, reverse.Start.Start, reverse.Reverse.Reverse}
 use Rattle.regex_extract.specs.Bounds.{IsAnchored}
 use Rattle.regex.specs.Patterns.{Matches, Re, SameCaptures, default_config}
 use Rattle.regex.specs.Writes.{HasTextParts}
 use Rattle.regex_syntax.specs.Grammar.{read}
-use Rattle.regex_dfa.specs.declared.forward.End.{End}
-use Rattle.regex_dfa.specs.declared.forward.Forward.{Forward}
-use Rattle.regex_dfa.specs.declared.reverse.Start.{Start}
-use Rattle.regex_dfa.specs.declared.reverse.Reverse.{Reverse}
-use Rattle.filterset_matchers.specs.declared.matcher.compiled.Compiled.{Compiled}
-use Rattle.filterset_matchers.specs.declared.matcher.compiled.Place.{Place}
+use Rattle.filterset_matchers.specs.declared.matcher.compiled.{Compiled.Compiled, Place.Place, Walk.Walk}
 use Rattle.filterset_matchers.specs.declared.matcher.compiled.Place.TheVariants as place
-use Rattle.filterset_matchers.specs.declared.matcher.compiled.Walk.{Walk}
 use Rattle.filterset_matchers.specs.declared.matcher.compiled.Walk.TheVariants as walk
 
 -- the grammar reads the pattern, which matches as the tree does, and that whole characters alone

@@ -1,17 +1,13 @@
 -- When matchers are equal.
 use Rattle.std.specs.Prelude.{◌≡◌, ℕ, ◌&&◌, Bool, true, false, List, refl}
-use Rattle.std.specs.Bool.{Decides, beq}
-use Rattle.std.specs.Str.{bytes_eq}
+use Rattle.std.specs.{Bool.Decides, Bool.beq, Str.bytes_eq}
 use Rattle.std.specs.Cmp.{IsEquivalence, decided, on_equiv, booleans_Decides}
 use Rattle.std.proofs.Common.{ap, subst}
-use Rattle.std.proofs.lemmas.Bool.{and_parts, and_from, false≢true}
-use Rattle.std.proofs.lemmas.Slice.Eq.{bytes_eq-Decides}
+use Rattle.std.proofs.lemmas.{Bool.and_parts, Bool.and_from, Bool.false≢true, Slice.Eq.bytes_eq-Decides}
 use Rattle.filterset_glob.specs.Equality.{same_tokens, same_tokens_is, same_tokens_self}
 use Rattle.filterset_glob.specs.Tokens.{Tokens}
 use Rattle.filterset_matchers.specs.Matcher as matcher
-use Rattle.filterset_matchers.specs.Matcher.{Matcher}
-use Rattle.filterset_matchers.specs.Matchers.{matcher_of}
-use Rattle.filterset_matchers.specs.declared.matcher.NameMatcher.{NameMatcher}
+use Rattle.filterset_matchers.specs.{Matcher.Matcher, Matchers.matcher_of, declared.matcher.NameMatcher.NameMatcher}
 
 -- what of a matcher is compared: of a glob its tokens alone, whatever its text and its sign are, and of the others all
 pub data Compared : Type 0 where

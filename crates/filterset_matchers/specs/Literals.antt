@@ -1,7 +1,6 @@
 -- The literals that every match of a glob contains, and globs that begin with any text.
 use Rattle.std.specs.Prelude.{◌≡◌, ℕ, Bool, true, false, List, ◌++◌, encode_utf8_all}
-use Rattle.filterset_glob.specs.Matching.{Matches}
-use Rattle.filterset_glob.specs.Tokens.{Tokens, deep_first, next_token, star}
+use Rattle.filterset_glob.specs.{Matching.Matches, Tokens.Tokens, Tokens.deep_first, Tokens.next_token, Tokens.star}
 
 -- in each text that the tokens match stand the characters with these bytes, one after the other
 abbrev pub StandsInEach : Tokens → List ℕ → Type 0

@@ -1,8 +1,6 @@
 -- Matchers of names as values, and what they match.
-use Rattle.std.specs.Prelude.{◌≡◌, ℕ, Bool, List, chars}
-use Rattle.std.specs.Str.Iter.{HasSubslice}
-use Rattle.filterset_glob.specs.Matching.{Matches}
-use Rattle.filterset_glob.specs.Tokens.{Tokens}
+use Rattle.std.specs.{Prelude.◌≡◌, Prelude.ℕ, Prelude.Bool, Prelude.List, Prelude.chars, Str.Iter.HasSubslice}
+use Rattle.filterset_glob.specs.{Matching.Matches, Tokens.Tokens}
 use Rattle.filterset_matchers.specs.Pattern.{HasMatch}
 
 -- a matcher without where its parts lie in memory: its texts by their bytes, a glob's tokens, and whether no sign

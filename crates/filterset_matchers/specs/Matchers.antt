@@ -1,8 +1,7 @@
 -- The value of a `NameMatcher`.
 use Rattle.std.specs.Prelude.{string_bytes}
 use Rattle.filterset_matchers.specs.Matcher as matcher
-use Rattle.filterset_matchers.specs.Matcher.{Matcher}
-use Rattle.filterset_matchers.specs.declared.matcher.NameMatcher.{NameMatcher}
+use Rattle.filterset_matchers.specs.{Matcher.Matcher, declared.matcher.NameMatcher.NameMatcher}
 use Rattle.filterset_matchers.specs.declared.matcher.NameMatcher.TheVariants.{Equal, Contains, Glob, Regex}
 
 abbrev pub matcher_of : NameMatcher → Matcher

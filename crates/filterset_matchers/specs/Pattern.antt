@@ -1,20 +1,16 @@
 -- Patterns of the crate `regex`, and their matches.
 use Rattle.std.specs.Prelude.{◌≡◌, ◌⊎◌, ◌↔◌, ℕ, ◌<◌, ◌≤◌, ◌==◌, ◌&&◌, not, Bool, true, false, List, [], ◌∷◌, length, map, count_by, Option, Some, None, option_map, IsSome, IsTrue, is_some, IsSomeAnd, IsCharBoundary, IsUtf8, get_or, chars, encode_utf8_all, string_bytes, if◌then◌else◌}
-use Rattle.std.specs.Char.{is_ascii_punctuation}
-use Rattle.std.specs.List.{Any}
-use Rattle.std.specs.Str.Iter.{HasSubslice}
+use Rattle.std.specs.{Char.is_ascii_punctuation, List.Any, Str.Iter.HasSubslice}
 use Rattle.regex_syntax.specs.Grammar.{read}
 use Rattle.regex_syntax.specs.declared.error.Error as parser
 use Rattle.regex.specs.Patterns.{Matches, default_config, Re, find_str}
 use Rattle.regex.specs.Strings.{regex_source, regex_config, IsReadFromSource, matcher_pattern}
-use Rattle.regex.specs.declared.error.Error.{Error}
-use Rattle.regex.specs.declared.error.Error.TheVariants.{Syntax, CompiledTooBig}
+use Rattle.regex.specs.declared.error.Error.{Error, TheVariants.Syntax, TheVariants.CompiledTooBig}
 use Rattle.regex.specs.declared.string.regex.Regex.{Regex}
 use Rattle.filterset_glob.specs.Signs.{sign, ◌∈◌}
 use Rattle.filterset_matchers.specs.Compiled.{IsCompiledOf}
-use Rattle.filterset_matchers.specs.declared.matcher.pattern.Searched.{Searched}
+use Rattle.filterset_matchers.specs.declared.matcher.pattern.{Searched.Searched, Search.Search}
 use Rattle.filterset_matchers.specs.declared.matcher.pattern.Searched.TheVariants as searched
-use Rattle.filterset_matchers.specs.declared.matcher.pattern.Search.{Search}
 use Rattle.filterset_matchers.specs.declared.matcher.pattern.Search.TheVariants as search
 
 -- the grammar of `regex` reads the text, with its default options and within its limit on nesting

@@ -1,7 +1,6 @@
 -- How a matcher prints.
 use Rattle.std.specs.Prelude.{ℕ, List, [], ◌∷◌, ◌++◌, codes, Bool, false, cond, ◌==◌, ◌&&◌, nat_le, chars, encode_utf8, if◌then◌else◌}
-use Rattle.std.specs.List.{flat_map}
-use Rattle.std.specs.Fmt.{digits}
+use Rattle.std.specs.{List.flat_map, Fmt.digits}
 use Rattle.filterset_glob.specs.Signs.{sign, ◌∈◌}
 use Rattle.filterset_matchers.specs.Matcher.{Matcher, Equal, Contains, Glob, Regex}
 

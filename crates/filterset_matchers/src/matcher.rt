@@ -111,8 +111,7 @@ impl Eq for NameMatcher {
 }
 
 impl NameMatcher {
-    ghost use Rattle.filterset_matchers.specs.Matcher.{MatchesName, ByComparing};
-    ghost use Rattle.filterset_matchers.specs.Matchers.{matcher_of};
+    ghost use Rattle.filterset_matchers.specs.{Matcher.MatchesName, Matcher.ByComparing, Matchers.matcher_of};
 
     /// Returns whether the matcher matches the input. The only error is out of memory; `Equal` and `Contains` always
     /// succeed.

@@ -1,7 +1,6 @@
 //! Printing of matchers.
 ghost use Rattle.std.specs.Prelude.{◌≡◌, ◌<◌, ◌≤◌, ◌↔◌, ◌++◌, All, IsTrue, Some, chars, cond, length, slice_index, take};
-ghost use Rattle.std.specs.Fmt.{WritesOnOk};
-ghost use Rattle.std.specs.List.{flat_map};
+ghost use Rattle.std.specs.{Fmt.WritesOnOk, List.flat_map};
 ghost use Rattle.filterset_matchers.specs.Matchers.{matcher_of};
 ghost use Rattle.filterset_matchers.specs.PrintedMatcher.{printed_matcher, printed_char, printed_first, printed_implicit, printed_value, printed_slash};
 ghost use Rattle.filterset_matchers.specs.Runs.{IsPlain};

@@ -1,12 +1,9 @@
 -- Whether lists have elements for which a fact holds.
 use Rattle.std.proofs.Common.{◌≡◌, ◌<◌, ◌≤◌, ◌↔◌, ⊎_elim, ℕ, true, false, List, ◌∷◌, arith, get_or, length, refl, subst, sym, take}
 use Rattle.std.specs.Prelude.{All, Any, Contains, IsTrue}
-use Rattle.std.proofs.lemmas.Bool.{false≢true}
-use Rattle.std.proofs.lemmas.List.{take_all}
-use Rattle.std.proofs.lemmas.List.Elements.{All-contains}
+use Rattle.std.proofs.lemmas.{Bool.false≢true, List.take_all, List.Elements.All-contains}
 use Rattle.nextest_filtering.proofs.Members.{first, first_or_later, later, none_in}
-use Rattle.filterset_names.specs.Sieves.{Selects}
-use Rattle.filterset_names.specs.Sieves.Sieves.{left, no_more, taken}
+use Rattle.filterset_names.specs.Sieves.{Selects, Sieves.left, Sieves.no_more, Sieves.taken}
 
 module _ {A : Type 0} (P : A → Type 0) where
   pub any_of : (xs : List A) (x : A) → Contains xs x → P x → Any P xs

@@ -2,8 +2,7 @@
 use Rattle.std.proofs.Common.{eqb-true, ◌≡◌, ◌==◌, ◌++◌, ◌<◌, ◌↔◌, ◌⊎◌, ◌∙◌, inl, inr, ⊎_elim, ℕ, suc, zero, true, false, List, [], ◌∷◌, ap, arith, drop, length, length-append, refl, subst, sym, take}
 use Rattle.std.specs.Prelude.{Any, Contains, None, Option, Some, is_some as holds}
 use Rattle.std.specs.Str.Iter.{HasSubslice}
-use Rattle.std.proofs.lemmas.Bool.{false≢true, or_parts, true≢false}
-use Rattle.std.proofs.lemmas.Grind.{same_number_lists}
+use Rattle.std.proofs.lemmas.{Bool.false≢true, Bool.or_parts, Bool.true≢false, Grind.same_number_lists}
 use Rattle.std.proofs.lemmas.List.{append_assoc, get_or-drop, get_or-take, length-drop, length-take-le}
 use Rattle.memchr.specs.Find.{FindsNeedle, OccursAt}
 use Rattle.filterset_graph.specs.Packages.{Text}

@@ -1,8 +1,7 @@
 -- Packages that are marked by their positions.
 use Rattle.std.proofs.Common.{◌≡◌, ◌↔◌, ⊎_elim, ℕ, Bool, true, false, List, ◌&&◌, refl, sym, ◌∙◌, ap, arith}
 use Rattle.std.specs.Prelude.{Some, slice_get}
-use Rattle.std.proofs.lemmas.Option.{same_Some, slice_get_within}
-use Rattle.std.proofs.lemmas.Bool.{cases_lt}
+use Rattle.std.proofs.lemmas.{Option.same_Some, Option.slice_get_within, Bool.cases_lt}
 use Rattle.filterset_graph.proofs.Positions.{position_from_Contains, mapped_at}
 use Rattle.filterset_graph.specs.Packages.{AllDiffer, Text, ids}
 use Rattle.filterset_graph.specs.declared.package.PackageMetadata.{PackageMetadata}

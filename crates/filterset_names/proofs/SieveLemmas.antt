@@ -1,9 +1,7 @@
 -- Sieves, element by element.
 use Rattle.std.proofs.Common.{◌≡◌, ◌<◌, ◌+◌, ◌↔◌, ℕ, Bool, true, false, cond, List, [], ◌∷◌, ◌++◌, length, map, get_or, take, ap, refl, sym, ◌∙◌, subst}
 use Rattle.std.specs.Prelude.{filter}
-use Rattle.std.proofs.lemmas.Bool.{false≢true}
-use Rattle.std.proofs.lemmas.List.{append-nil, map-append}
-use Rattle.std.proofs.lemmas.List.Elements.{filter_more}
+use Rattle.std.proofs.lemmas.{Bool.false≢true, List.append-nil, List.map-append, List.Elements.filter_more}
 use Rattle.filterset_names.specs.Sieves.{Selects, SelectsAs, Sieves, taken_if}
 use Rattle.filterset_names.specs.Sieves.Sieves.{left, no_more, taken}
 

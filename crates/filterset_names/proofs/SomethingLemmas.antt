@@ -10,15 +10,13 @@ use Rattle.filterset_grammar.specs.Tree.{Leaf, Matching, Platform, Default}
 use Rattle.filterset_grammar.specs.declared.predicate.Predicate.TheVariants.{Package, Deps, Rdeps, Kind, Binary, BinaryId, Test, Group}
 use Rattle.filterset_matchers.specs.Matcher.{Matcher, MatchesName}
 use Rattle.filterset_names.specs.Matched.{IsBuiltFor, IsShortlist, PicksPackage, PicksSuite, Shortlists, binary_id, package_name}
-use Rattle.filterset_names.specs.Sieves.{Selects}
-use Rattle.filterset_names.specs.Something.{CountsTheSame, IsMemberNamed, tests_of}
+use Rattle.filterset_names.specs.{Sieves.Selects, Something.CountsTheSame, Something.IsMemberNamed, Something.tests_of}
 use Rattle.filterset_names.specs.Workspaces.{WorkspaceRow}
 use Rattle.filterset_names.specs.declared.matched.Matched.TheVariants.{Packages, Binaries, Tests}
-use Rattle.filterset_names.specs.declared.matched.Shortlist.{Shortlist}
-use Rattle.filterset_names.specs.declared.matching.Compared.TheVariants as compared
-use Rattle.filterset_names.specs.declared.packages.Reach.{Reach}
+use Rattle.filterset_names.specs.declared.{matched.Shortlist.Shortlist, packages.Reach.Reach}
 use Rattle.filterset_names.specs.declared.packages.Reach.TheVariants.{Alone, Dependencies, Dependents}
 use Rattle.filterset_names.proofs.AnyLemmas.{selects_some}
+use Rattle.filterset_names.specs.declared.matching.Compared.TheVariants as compared
 
 -- ---- packages
 

@@ -3,24 +3,19 @@ use Rattle.std.specs.Prelude.{◌≡◌, ◌↔◌, List, Option, Some, None, le
 use Rattle.filterset_expression.specs.Meaning.{IsDependency, IsDependent, IsPackage, MeansOfBinary}
 use Rattle.filterset_expression.specs.declared.query.BinaryQuery.{BinaryQuery}
 use Rattle.filterset_graph.specs.Packages.{Text}
-use Rattle.filterset_graph.specs.declared.package.BuildPlatform.{BuildPlatform}
-use Rattle.filterset_graph.specs.declared.package.PackageMetadata.{PackageMetadata}
+use Rattle.filterset_graph.specs.declared.package.{BuildPlatform.BuildPlatform, PackageMetadata.PackageMetadata}
 use Rattle.filterset_grammar.specs.Tree as tree
 use Rattle.filterset_grammar.specs.Tree.{Leaf, Matching, Platform, Default}
 use Rattle.filterset_grammar.specs.declared.predicate.Predicate.TheVariants.{Package, Deps, Rdeps, Kind, Binary, BinaryId, Test}
 use Rattle.filterset_matchers.specs.Matcher.{Matcher, MatchesName}
 use Rattle.filterset_sources.specs.declared.list.Suite.{Suite}
-use Rattle.filterset_names.specs.Names.{names_in}
-use Rattle.filterset_names.specs.Sieves.{Selects, SelectsAs}
-use Rattle.filterset_names.specs.Workspaces.{WorkspaceRow}
-use Rattle.filterset_names.specs.declared.matching.Compared.{Compared}
-use Rattle.filterset_names.specs.declared.matching.Compared.TheVariants as compared
-use Rattle.filterset_names.specs.declared.matched.Matched.{Matched}
+use Rattle.filterset_names.specs.{Names.names_in, Sieves.Selects, Sieves.SelectsAs, Workspaces.WorkspaceRow}
+use Rattle.filterset_names.specs.declared.{matching.Compared.Compared, matched.Matched.Matched}
 use Rattle.filterset_names.specs.declared.matched.Matched.TheVariants.{Packages, Binaries, Tests}
-use Rattle.filterset_names.specs.declared.matched.Shortlist.{Shortlist}
-use Rattle.filterset_names.specs.declared.names.Named.TheVariants as named
-use Rattle.filterset_names.specs.declared.packages.Reach.{Reach}
+use Rattle.filterset_names.specs.declared.{matched.Shortlist.Shortlist, packages.Reach.Reach}
 use Rattle.filterset_names.specs.declared.packages.Reach.TheVariants.{Alone, Dependencies, Dependents}
+use Rattle.filterset_names.specs.declared.matching.Compared.TheVariants as compared
+use Rattle.filterset_names.specs.declared.names.Named.TheVariants as named
 
 -- the first ten of these names, and how many there are
 abbrev pub IsShortlist : List Text → Shortlist → Type 0

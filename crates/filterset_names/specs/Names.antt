@@ -1,9 +1,7 @@
 -- The names of a workspace.
-use Rattle.std.specs.Prelude.{List, filter, map, string_bytes}
-use Rattle.std.specs.List.{flat_map}
+use Rattle.std.specs.{Prelude.List, Prelude.filter, Prelude.map, Prelude.string_bytes, List.flat_map}
 use Rattle.filterset_graph.specs.Packages.{Text}
-use Rattle.filterset_names.specs.Workspaces.{WorkspaceRow}
-use Rattle.filterset_names.specs.declared.names.Named.{Named}
+use Rattle.filterset_names.specs.{Workspaces.WorkspaceRow, declared.names.Named.Named}
 use Rattle.filterset_names.specs.declared.names.Named.TheVariants.{Binary, BinaryId, Package, Test}
 
 -- the names of what is named so: of the packages of the workspace, of its test binaries, their ids, or the names of their tests

@@ -1,9 +1,7 @@
 -- Matchers for many names.
 use Rattle.filterset_matchers.specs.Matcher as matcher
-use Rattle.filterset_matchers.specs.Matcher.{Matcher}
-use Rattle.filterset_matchers.specs.Matchers.{matcher_of}
-use Rattle.filterset_names.specs.declared.ready.ReadyMatcher.{ReadyMatcher}
-use Rattle.filterset_names.specs.declared.ready.ReadyMatcher.TheVariants.{Pattern, Other}
+use Rattle.filterset_matchers.specs.{Matcher.Matcher, Matchers.matcher_of}
+use Rattle.filterset_names.specs.declared.ready.ReadyMatcher.{ReadyMatcher, TheVariants.Pattern, TheVariants.Other}
 
 -- the matcher
 abbrev pub ready_matcher : ReadyMatcher → Matcher

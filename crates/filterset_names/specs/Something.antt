@@ -1,19 +1,16 @@
 -- Whether predicates match something in a workspace.
 use Rattle.std.specs.Prelude.{◌↔◌, ◌<◌, ◌++◌, ◌==◌, ◌∷◌, [], Any, Bool, IsTrue, List, None, Option, Some, string_bytes}
 use Rattle.std.specs.List.{flat_map, list_any}
-use Rattle.filterset_graph.specs.Packages.{Text}
-use Rattle.filterset_graph.specs.declared.package.PackageMetadata.{PackageMetadata}
+use Rattle.filterset_graph.specs.{Packages.Text, declared.package.PackageMetadata.PackageMetadata}
 use Rattle.filterset_grammar.specs.Tree.{Leaf, Matching, Platform}
 use Rattle.filterset_grammar.specs.declared.predicate.Predicate.TheVariants.{Package, Deps, Rdeps, Kind, Binary, BinaryId, Test}
 use Rattle.filterset_matchers.specs.Matcher.{Matcher, MatchesName}
 use Rattle.filterset_names.specs.Matched.{IsBuiltFor, MatchesLeaf, PicksPackage, PicksSuite}
-use Rattle.filterset_names.specs.Names.{names_in}
-use Rattle.filterset_names.specs.Workspaces.{WorkspaceRow}
-use Rattle.filterset_names.specs.declared.matching.Compared.TheVariants as compared
-use Rattle.filterset_names.specs.declared.matched.Matched.{Matched}
+use Rattle.filterset_names.specs.{Names.names_in, Workspaces.WorkspaceRow, declared.matched.Matched.Matched}
 use Rattle.filterset_names.specs.declared.matched.Matched.TheVariants.{Packages, Binaries, Tests}
-use Rattle.filterset_names.specs.declared.names.Named.TheVariants as named
 use Rattle.filterset_names.specs.declared.packages.Reach.TheVariants.{Alone, Dependencies, Dependents}
+use Rattle.filterset_names.specs.declared.matching.Compared.TheVariants as compared
+use Rattle.filterset_names.specs.declared.names.Named.TheVariants as named
 
 -- a package of the workspace whose name the matcher matches
 abbrev pub IsMemberNamed : Matcher → PackageMetadata → Type 0

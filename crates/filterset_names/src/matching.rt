@@ -1,10 +1,9 @@
 //! The names and the test binaries that a matcher matches.
 ghost use Rattle.std.specs.Prelude.{◌≡◌, ◌↔◌, IfOk, IsTrue, map};
-ghost use Rattle.filterset_matchers.specs.Matcher.{MatchesName};
-ghost use Rattle.filterset_matchers.specs.Matchers.{matcher_of};
+ghost use Rattle.filterset_matchers.specs.{Matcher.MatchesName, Matchers.matcher_of};
 ghost use Rattle.filterset_names.specs.Matched.{IsBuiltFor, PicksSuite, binary_id};
-ghost use Rattle.filterset_names.specs.Matched as spec;
 ghost use Rattle.filterset_names.specs.Sieves.{Selects, SelectsAs};
+ghost use Rattle.filterset_names.specs.Matched as spec;
 
 use crate::ready::ReadyMatcher;
 use filterset_graph::BuildPlatform;

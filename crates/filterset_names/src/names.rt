@@ -1,8 +1,7 @@
 //! The names of a workspace.
 ghost use Rattle.std.specs.Prelude.{◌≡◌, IfOk, filter, map, string_bytes};
 ghost use Rattle.std.specs.List.{flat_map};
-ghost use Rattle.filterset_names.specs.Names.{names_in};
-ghost use Rattle.filterset_names.specs.Workspaces.{workspace_row};
+ghost use Rattle.filterset_names.specs.{Names.names_in, Workspaces.workspace_row};
 
 use crate::packages::push_member;
 use crate::workspace::Workspace;

@@ -1,7 +1,6 @@
 //! Matchers for many names.
 ghost use Rattle.std.specs.Prelude.{◌≡◌, ◌↔◌, IsTrue, IfOk};
-ghost use Rattle.filterset_matchers.specs.Matcher.{MatchesName};
-ghost use Rattle.filterset_matchers.specs.Matchers.{matcher_of};
+ghost use Rattle.filterset_matchers.specs.{Matcher.MatchesName, Matchers.matcher_of};
 ghost use Rattle.filterset_names.specs.ReadyMatchers.{ready_matcher};
 
 use filterset_matchers::{NameMatcher, PatternMatcher};

@@ -1,7 +1,6 @@
 //! Whether a matcher matches any name, package or test binary.
 ghost use Rattle.std.specs.Prelude.{◌↔◌, Any, IfOk, IsTrue, map};
-ghost use Rattle.filterset_matchers.specs.Matcher.{MatchesName};
-ghost use Rattle.filterset_matchers.specs.Matchers.{matcher_of};
+ghost use Rattle.filterset_matchers.specs.{Matcher.MatchesName, Matchers.matcher_of};
 ghost use Rattle.filterset_names.specs.Matched.{IsBuiltFor, PicksPackage, PicksSuite};
 
 use crate::matching::{Compared, compared_text, is_built_for};

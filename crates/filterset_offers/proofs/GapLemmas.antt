@@ -1,15 +1,11 @@
 -- Where words of a text are cut.
 use Rattle.std.proofs.Common.{◌≡◌, ℕ, zero, suc, ◌+◌, ◌-◌, ◌<◌, ◌≤◌, true, List, length, get_or, reverse, arith, subst}
-use Rattle.std.proofs.lemmas.Bool.Decides.{nat_tests}
-use Rattle.std.proofs.lemmas.List.{get_or-reverse}
+use Rattle.std.proofs.lemmas.{Bool.Decides.nat_tests, List.get_or-reverse}
 use Rattle.std.proofs.lemmas.List.Sums.{prefix_len-le-length, prefix_len_passes, suffix_len-le-length}
 use Rattle.std.proofs.lemmas.Str.{IsCharBoundary-after_ascii, IsCharBoundary-before_ascii, IsCharBoundary-end, IsCharBoundary-start}
-use Rattle.std.specs.List.{prefix_len, suffix_len}
-use Rattle.std.specs.Prelude.{IsUtf8}
-use Rattle.std.specs.Str.{IsCharBoundary}
+use Rattle.std.specs.{List.prefix_len, List.suffix_len, Prelude.IsUtf8, Str.IsCharBoundary}
 use Rattle.filterset_offers.specs.Gaps.{is_of}
-use Rattle.filterset_offers.specs.declared.gaps.Word.{Word}
-use Rattle.filterset_offers.specs.declared.gaps.Word.TheVariants.{Name, Plain}
+use Rattle.filterset_offers.specs.declared.gaps.Word.{Word, TheVariants.Name, TheVariants.Plain}
 
 -- the bytes of words are characters
 is_of-ascii : (word : Word) (b : ℕ) → is_of word b ≡ true → b < 128

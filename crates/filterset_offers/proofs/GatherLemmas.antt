@@ -1,16 +1,10 @@
 -- Names that are gathered, one by one.
 use Rattle.std.proofs.Common.{◌≡◌, ◌<◌, ◌+◌, ◌&&◌, ◌||◌, ◌⊎◌, ⊎_elim, inl, inr, ℕ, Bool, Bor, true, false, not, List, [], ◌∷◌, ◌++◌, get_or, length, length-append, map, take, refl, sym, ◌∙◌, ap, subst, arith}
 use Rattle.std.specs.Prelude.{Contains, IsTrue, nat_lt}
-use Rattle.std.specs.List.{IsDistinct, list_any}
-use Rattle.std.specs.Str.{bytes_eq}
-use Rattle.std.specs.Cmp.Lexicographic.{nat_list_eq_equiv}
-use Rattle.std.proofs.lemmas.Bool.{false≢true}
-use Rattle.std.proofs.lemmas.Bool.Decides.{nat_tests}
-use Rattle.std.proofs.lemmas.List.{length-map, map-append, map_more}
+use Rattle.std.specs.{List.IsDistinct, List.list_any, Str.bytes_eq, Cmp.Lexicographic.nat_list_eq_equiv}
+use Rattle.std.proofs.lemmas.{Bool.false≢true, Bool.Decides.nat_tests, List.length-map, List.map-append, List.map_more}
 use Rattle.std.proofs.lemmas.List.Elements.{Contains-append_left, Contains-push, Contains-push_cases}
-use Rattle.std.proofs.lemmas.Map.Keys.{IsDistinct-push}
-use Rattle.std.proofs.lemmas.Map.Views.{Contains-from_any}
-use Rattle.std.proofs.lemmas.Slice.Eq.{bytes_eq-Decides}
+use Rattle.std.proofs.lemmas.{Map.Keys.IsDistinct-push, Map.Views.Contains-from_any, Slice.Eq.bytes_eq-Decides}
 use Rattle.filterset_editor.specs.Positions.{Text}
 use Rattle.filterset_offers.specs.Names.{IsGathered, limit, may_offer}
 

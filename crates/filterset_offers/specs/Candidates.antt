@@ -3,8 +3,7 @@ use Rattle.std.specs.Prelude.{ℕ, ◌+◌, ◌++◌, ◌==◌, ◌&&◌, ◌||�
 use Rattle.filterset_editor.specs.Positions.{Text}
 use Rattle.filterset_names.specs.declared.names.Named.{Named}
 use Rattle.filterset_names.specs.declared.names.Named.TheVariants as named
-use Rattle.filterset_offers.specs.declared.candidates.Candidate.{Candidate}
-use Rattle.filterset_offers.specs.declared.candidates.Mark.{Mark}
+use Rattle.filterset_offers.specs.declared.candidates.{Candidate.Candidate, Mark.Mark}
 use Rattle.filterset_offers.specs.declared.candidates.Mark.TheVariants.{Begins, Precedes, Inside, Names}
 use Rattle.filterset_offers.specs.declared.candidates.Owner.{Owner}
 use Rattle.filterset_offers.specs.declared.candidates.Owner.TheVariants as owners

@@ -3,13 +3,10 @@ use Rattle.std.specs.Prelude.{ℕ, ◌+◌, ◌-◌, Bool, drop, length, nat_le,
 use Rattle.std.specs.List.{prefix_len, suffix_len}
 use Rattle.filterset_entries.specs.Placements.{TextSpot, line, literal}
 use Rattle.filterset_editor.specs.Positions.{Text}
-use Rattle.filterset_faults.specs.Span.{span}
-use Rattle.filterset_faults.specs.declared.span.SourceSpan.{SourceSpan}
+use Rattle.filterset_faults.specs.{Span.span, declared.span.SourceSpan.SourceSpan}
 use Rattle.filterset_configuration.specs.declared.stretch.Stretch.{Stretch}
 use Rattle.filterset_offers.specs.Candidates.{is_name_byte, is_word_byte}
-use Rattle.filterset_offers.specs.declared.gaps.Gap.{Gap}
-use Rattle.filterset_offers.specs.declared.gaps.Word.{Word}
-use Rattle.filterset_offers.specs.declared.gaps.Word.TheVariants.{Name, Plain}
+use Rattle.filterset_offers.specs.declared.gaps.{Gap.Gap, Word.Word, Word.TheVariants.Name, Word.TheVariants.Plain}
 
 -- a text before a word, the part of the word that is typed, which is before the cursor, where the word is, and the text after it
 pub record GapRow : Type 0 where

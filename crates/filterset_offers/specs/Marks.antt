@@ -3,21 +3,18 @@ use Rattle.std.specs.Prelude.{ℕ, ◌-◌, ◌==◌, ◌&&◌, Bool, false, tru
 use Rattle.std.specs.Str.{bytes_eq}
 use Rattle.filterset_editor.specs.Positions.{Text}
 use Rattle.filterset_faults.specs.Span.{length_of, offset_of}
-use Rattle.filterset_faults.specs.declared.kind.FiltersetKind.{FiltersetKind}
+use Rattle.filterset_faults.specs.declared.{kind.FiltersetKind.FiltersetKind, span.SourceSpan.SourceSpan}
 use Rattle.filterset_faults.specs.declared.kind.FiltersetKind.TheVariants as kinds
-use Rattle.filterset_faults.specs.declared.span.SourceSpan.{SourceSpan}
-use Rattle.filterset_grammar.specs.Bans.{ban_reason}
-use Rattle.filterset_grammar.specs.Grammar.{Name}
-use Rattle.filterset_grammar.specs.Tree as tree
+use Rattle.filterset_grammar.specs.{Bans.ban_reason, Grammar.Name}
 use Rattle.filterset_grammar.specs.Tree.{Leaf, Matching, Platform, Default, Tree, leaf_without_span, tree_leaves}
 use Rattle.filterset_grammar.specs.declared.predicate.Predicate.{Predicate}
+use Rattle.filterset_grammar.specs.Tree as tree
 use Rattle.filterset_grammar.specs.declared.predicate.Predicate.TheVariants as predicates
 use Rattle.filterset_language.specs.Faults.{leaf_span}
 use Rattle.filterset_matchers.specs.Matcher.{Matcher, Equal, Contains, Glob, Regex}
 use Rattle.filterset_names.specs.declared.names.Named.{Named}
 use Rattle.filterset_names.specs.declared.names.Named.TheVariants as named
-use Rattle.filterset_offers.specs.Candidates.{Row}
-use Rattle.filterset_offers.specs.declared.candidates.Mark.{Mark}
+use Rattle.filterset_offers.specs.{Candidates.Row, declared.candidates.Mark.Mark}
 use Rattle.filterset_offers.specs.declared.candidates.Mark.TheVariants.{Begins, Precedes, Inside, Names}
 use Rattle.filterset_offers.specs.declared.candidates.Owner.{Owner}
 use Rattle.filterset_offers.specs.declared.candidates.Owner.TheVariants as owners

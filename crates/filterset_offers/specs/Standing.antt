@@ -2,17 +2,13 @@
 use Rattle.std.specs.Prelude.{◌≡◌, ◌-◌, ◌++◌, ◌==◌, ◌&&◌, ℕ, Bool, true, false, List, [], MatchBool, length, not, replicate, slice_index, if◌then◌else◌}
 use Rattle.std.specs.List.{count_by, starts_with}
 use Rattle.filterset_editor.specs.Positions.{Text}
-use Rattle.filterset_faults.specs.Span.{offset_of}
-use Rattle.filterset_faults.specs.declared.kind.FiltersetKind.{FiltersetKind}
+use Rattle.filterset_faults.specs.{Span.offset_of, declared.kind.FiltersetKind.FiltersetKind}
 use Rattle.filterset_documents.specs.Filtersets.{OfTree}
 use Rattle.filterset_names.specs.Sieves.{Sieves}
-use Rattle.filterset_offers.specs.Candidates.{Row}
-use Rattle.filterset_offers.specs.Gaps.{GapRow, gap_at, gap_row, is_of}
-use Rattle.filterset_offers.specs.Marks.{shows}
+use Rattle.filterset_offers.specs.{Candidates.Row, Gaps.GapRow, Gaps.gap_at, Gaps.gap_row, Gaps.is_of, Marks.shows}
 use Rattle.filterset_offers.specs.declared.candidates.Mark.{Mark}
 use Rattle.filterset_offers.specs.declared.candidates.Mark.TheVariants.{Begins, Precedes, Inside, Names}
-use Rattle.filterset_offers.specs.declared.gaps.Word.TheVariants.{Name, Plain}
-use Rattle.filterset_offers.specs.declared.standing.Gaps.{Gaps}
+use Rattle.filterset_offers.specs.declared.{gaps.Word.TheVariants.Name, gaps.Word.TheVariants.Plain, standing.Gaps.Gaps}
 
 -- ---- a candidate in place of a word
 

@@ -1,8 +1,7 @@
 //! What is offered at a position of a document.
 ghost use Rattle.std.specs.Prelude.{◌≡◌, IfOk, map};
 ghost use Rattle.serde_json.specs.View.{view};
-ghost use Rattle.filterset_entries.specs.Checked.{text_row};
-ghost use Rattle.filterset_entries.specs.Placements.{spot_of};
+ghost use Rattle.filterset_entries.specs.{Checked.text_row, Placements.spot_of};
 ghost use Rattle.filterset_names.specs.Workspaces.{known_of};
 ghost use Rattle.filterset_offers.specs.Completion.{CompletesAt, CompletesGaps, CompletesIn, CompletesRow, CompletesRows, list_data};
 ghost use Rattle.filterset_offers.specs.Standing.{gap_rows};

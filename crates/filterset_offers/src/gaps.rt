@@ -1,7 +1,6 @@
 //! The word at an offset of a text.
 ghost use Rattle.std.specs.Prelude.{◌≡◌, ◌≤◌, ◌+◌, ◌-◌, ◌↔◌, IfSome, IsSome, drop, length, take};
-ghost use Rattle.std.specs.List.{prefix_len, suffix_len};
-ghost use Rattle.std.specs.Str.{IsCharBoundary};
+ghost use Rattle.std.specs.{List.prefix_len, List.suffix_len, Str.IsCharBoundary};
 ghost use Rattle.filterset_entries.specs.Placements.{spot_of};
 ghost use Rattle.filterset_offers.specs.Candidates as bytes;
 ghost use Rattle.filterset_offers.specs.Gaps as spec;

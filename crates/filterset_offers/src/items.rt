@@ -1,12 +1,9 @@
 //! The items of what is offered.
-ghost use Rattle.std.specs.Prelude.{◌≡◌, IfOk, map};
-ghost use Rattle.std.specs.List.{AllZip};
+ghost use Rattle.std.specs.{Prelude.◌≡◌, Prelude.IfOk, Prelude.map, List.AllZip};
 ghost use Rattle.serde_json.specs.View.{view};
 ghost use Rattle.filterset_entries.specs.Placements.{spot_of};
 ghost use Rattle.filterset_documents.specs.Edits.{edit_data};
-ghost use Rattle.filterset_offers.specs.Candidates.{row_of};
-ghost use Rattle.filterset_offers.specs.Completion.{IsItem, item_data};
-ghost use Rattle.filterset_offers.specs.Gaps.{gap_row};
+ghost use Rattle.filterset_offers.specs.{Candidates.row_of, Completion.IsItem, Completion.item_data, Gaps.gap_row};
 ghost use Rattle.filterset_offers.specs.Standing.{gap_rows, inserted};
 
 use crate::candidates::Candidate;

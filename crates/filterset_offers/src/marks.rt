@@ -2,9 +2,8 @@
 ghost use Rattle.std.specs.Prelude.{◌≡◌, IfOk};
 ghost use Rattle.filterset_language.specs.Views.{leaf_of, tree_of};
 ghost use Rattle.filterset_matchers.specs.Matchers.{matcher_of};
-ghost use Rattle.filterset_offers.specs.Candidates.{row_of};
+ghost use Rattle.filterset_offers.specs.{Candidates.row_of, Marks.has_mark};
 ghost use Rattle.filterset_offers.specs.Marks as spec;
-ghost use Rattle.filterset_offers.specs.Marks.{has_mark};
 
 use crate::candidates::{Candidate, Mark, Owner};
 use filterset_documents::{is_same, leaf_span};

@@ -1,10 +1,9 @@
 //! Which candidates stand where they are put.
 ghost use Rattle.std.specs.Prelude.{◌≡◌, ◌↔◌, IfOk, IfSome, IsSome, string_bytes};
 ghost use Rattle.std.specs.Str.{IsCharBoundary};
-ghost use Rattle.filterset_offers.specs.Candidates.{row_of};
-ghost use Rattle.filterset_offers.specs.Gaps.{gap_row};
-ghost use Rattle.filterset_offers.specs.Standing as spec;
+ghost use Rattle.filterset_offers.specs.{Candidates.row_of, Gaps.gap_row};
 ghost use Rattle.filterset_offers.specs.Standing.{Fits, Stands, behind_of, gap_rows, text_with};
+ghost use Rattle.filterset_offers.specs.Standing as spec;
 
 use crate::candidates::{Candidate, Mark};
 use crate::gaps::{Gap, Word, gap_at};

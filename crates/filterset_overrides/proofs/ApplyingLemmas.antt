@@ -5,15 +5,12 @@ use Rattle.filterset_faults.specs.declared.span.SourceSpan.{SourceSpan}
 use Rattle.filterset_graph.specs.declared.package.PackageMetadata.{PackageMetadata}
 use Rattle.filterset_grammar.specs.Tree.{Tree}
 use Rattle.filterset_expression.specs.Expression.{Holds, no_groups}
-use Rattle.filterset_expression.specs.FlatExpressions.{IsFlat}
-use Rattle.filterset_expression.specs.Meaning.{IsCompiled, Meaning}
-use Rattle.filterset_expression.specs.declared.expression.CompiledExpr.{CompiledExpr}
-use Rattle.filterset_expression.specs.declared.flat.FlatExpr.{FlatExpr}
+use Rattle.filterset_expression.specs.{FlatExpressions.IsFlat, Meaning.IsCompiled, Meaning.Meaning}
+use Rattle.filterset_expression.specs.declared.{expression.CompiledExpr.CompiledExpr, flat.FlatExpr.FlatExpr}
 use Rattle.filterset_expression.specs.declared.query.TestQuery.{TestQuery}
 use Rattle.filterset_expression.proofs.Meanings.{compiled_means}
 use Rattle.filterset_overrides.specs.Applying.{AppliesAs, FilterPicks, HasApplication, IsCompiledOf, platforms_of}
-use Rattle.filterset_overrides.specs.Asking.{IsLaidOut, is_all}
-use Rattle.filterset_overrides.specs.declared.applying.Application.{Application}
+use Rattle.filterset_overrides.specs.{Asking.IsLaidOut, Asking.is_all, declared.applying.Application.Application}
 use Rattle.filterset_overrides.specs.declared.applying.Application.TheVariants.{Applies, NotPicked, OtherPlatform, UnknownPlatform}
 use Rattle.filterset_overrides.specs.declared.asked.AskedOverride.{AskedOverride}
 

@@ -1,7 +1,6 @@
 -- Which override takes a setting.
 use Rattle.std.proofs.Common.{◌≡◌, ◌<◌, ◌+◌, ℕ, suc, Bool, true, false, List, [], ◌∷◌, ◌++◌, Option, Some, None, length, map, take, drop, get_or, replicate, refl, sym, ap, subst, ◌∙◌}
-use Rattle.std.specs.Prelude.{if◌then◌else◌}
-use Rattle.std.specs.List.{AllZip, zip}
+use Rattle.std.specs.{Prelude.if◌then◌else◌, List.AllZip, List.zip}
 use Rattle.filterset_graph.specs.declared.package.PackageMetadata.{PackageMetadata}
 use Rattle.filterset_expression.specs.Connectives.{kleene, kleene_not}
 use Rattle.filterset_expression.specs.declared.expression.CompiledExpr.{CompiledExpr}
@@ -11,8 +10,7 @@ use Rattle.filterset_overrides.specs.Applying.{AppliesAs, DoesApply, Test, Text,
 use Rattle.filterset_overrides.specs.Asking.{NamesOverride}
 use Rattle.filterset_overrides.specs.Giving.{AreExplained, Gives, IsFirst, IsGiver, IsProfileGiver, Takes, asked_of}
 use Rattle.filterset_overrides.specs.declared.applying.ExplainedOverride.{ExplainedOverride}
-use Rattle.filterset_overrides.specs.declared.asked.AskedOverride.{AskedOverride}
-use Rattle.filterset_overrides.specs.declared.asked.AskedProfile.{AskedProfile}
+use Rattle.filterset_overrides.specs.declared.asked.{AskedOverride.AskedOverride, AskedProfile.AskedProfile}
 use Rattle.filterset_overrides.specs.declared.explaining.Giver.{Giver}
 use Rattle.filterset_overrides.specs.declared.explaining.Giver.TheVariants.{Override, Unknown, Profile, Nextest}
 use Rattle.filterset_overrides.proofs.ListLemmas.{AllZip-both, AllZip-replicate, AllZip-zip, map_append, map_more, split_at}

@@ -1,14 +1,11 @@
 -- Texts, each once.
 use Rattle.std.proofs.Common.{◌≡◌, ◌≢◌, true, false, List, [], ◌∷◌, ◌++◌, map, get_or, refl, sym, subst, ◌∙◌, inl, inr, arith, Contains}
-use Rattle.std.specs.List.{list_any}
-use Rattle.std.specs.Str.{bytes_eq}
+use Rattle.std.specs.{List.list_any, Str.bytes_eq}
 use Rattle.std.proofs.lemmas.Bool.{false≢true}
 use Rattle.std.proofs.lemmas.List.Elements.{Contains-append_left, Contains-get_or, Contains-push, Contains-push_cases}
 use Rattle.std.proofs.lemmas.List.Folds.{Any-from_list_any, list_any-from_Any}
-use Rattle.std.proofs.lemmas.List.Quantifiers.{all_pairs_push}
-use Rattle.std.proofs.lemmas.Slice.Eq.{bytes_eq-Decides}
-use Rattle.filterset_overrides.specs.Applying.{Text}
-use Rattle.filterset_overrides.specs.Giving.{AreDistinctOf}
+use Rattle.std.proofs.lemmas.{List.Quantifiers.all_pairs_push, Slice.Eq.bytes_eq-Decides}
+use Rattle.filterset_overrides.specs.{Applying.Text, Giving.AreDistinctOf}
 
 any_mapped : {A : Type 0} (f : A → Text) (key : Text) (xs : List A) → list_any (λ x. bytes_eq (f x) key) xs ≡ list_any (λ t. bytes_eq t key) (map f xs)
 any_mapped f key [] = refl

@@ -1,12 +1,9 @@
 -- What overrides answer about tests, kept as lists. Only contracts of private functions cite this.
-use Rattle.std.specs.Prelude.{All, Bool, List, Option, map}
-use Rattle.std.specs.List.{AllZip}
+use Rattle.std.specs.{Prelude.All, Prelude.Bool, Prelude.List, Prelude.Option, Prelude.map, List.AllZip}
 use Rattle.filterset_graph.specs.declared.package.PackageMetadata.{PackageMetadata}
 use Rattle.filterset_expression.specs.declared.expression.CompiledExpr.{CompiledExpr}
 use Rattle.filterset_overrides.specs.Applying.{DoesApply, Test, Text}
-use Rattle.filterset_overrides.specs.Counting.{PicksAll}
-use Rattle.filterset_overrides.specs.Giving.{Takes}
-use Rattle.filterset_overrides.specs.declared.asked.AskedOverride.{AskedOverride}
+use Rattle.filterset_overrides.specs.{Counting.PicksAll, Giving.Takes, declared.asked.AskedOverride.AskedOverride}
 use Rattle.filterset_overrides.specs.declared.counting.applied.AppliedOverride.{AppliedOverride}
 
 -- the answers are those of the override about the tests

@@ -1,21 +1,15 @@
 -- Whether overrides apply to tests.
 use Rattle.std.specs.Prelude.{◌≡◌, ℕ, Bool, true, false, List, Option, Some, None, MatchOption, map, string_bytes}
-use Rattle.std.specs.List.{flat_map, list_any}
-use Rattle.std.specs.Str.{bytes_eq}
-use Rattle.std.specs.declared.alloc.Global.{Global}
-use Rattle.std.specs.declared.string.String.{String}
+use Rattle.std.specs.{List.flat_map, List.list_any, Str.bytes_eq}
+use Rattle.std.specs.declared.{alloc.Global.Global, string.String.String}
 use Rattle.filterset_faults.specs.declared.span.SourceSpan.{SourceSpan}
-use Rattle.filterset_graph.specs.declared.package.BuildPlatform.{BuildPlatform}
-use Rattle.filterset_graph.specs.declared.package.BuildPlatform.TheVariants.{Target, Host}
+use Rattle.filterset_graph.specs.declared.package.BuildPlatform.{BuildPlatform, TheVariants.Target, TheVariants.Host}
 use Rattle.filterset_graph.specs.declared.package.PackageMetadata.{PackageMetadata}
 use Rattle.filterset_grammar.specs.Tree.{Tree}
-use Rattle.filterset_expression.specs.Expression.{no_groups}
-use Rattle.filterset_expression.specs.Meaning.{IsCompiled, Meaning}
+use Rattle.filterset_expression.specs.{Expression.no_groups, Meaning.IsCompiled, Meaning.Meaning}
 use Rattle.filterset_expression.specs.declared.expression.CompiledExpr.{CompiledExpr}
-use Rattle.filterset_expression.specs.declared.query.BinaryQuery.{BinaryQuery}
-use Rattle.filterset_expression.specs.declared.query.TestQuery.{TestQuery}
-use Rattle.filterset_overrides.specs.declared.asked.ListedBinary.{ListedBinary}
-use Rattle.filterset_overrides.specs.declared.applying.Application.{Application}
+use Rattle.filterset_expression.specs.declared.query.{BinaryQuery.BinaryQuery, TestQuery.TestQuery}
+use Rattle.filterset_overrides.specs.declared.{asked.ListedBinary.ListedBinary, applying.Application.Application}
 use Rattle.filterset_overrides.specs.declared.applying.Application.TheVariants.{Applies, NotPicked, OtherPlatform, UnknownPlatform}
 use Rattle.filterset_overrides.specs.declared.asked.AskedOverride.{AskedOverride}
 

@@ -1,14 +1,10 @@
 -- What the laid out filter of an override answers. Only contracts of private functions cite this.
 use Rattle.std.specs.Prelude.{◌≡◌, Bool, true, false, Option, Some, None, MatchOption, if◌then◌else◌}
-use Rattle.filterset_expression.specs.Expression.{All, formula}
-use Rattle.filterset_expression.specs.Formula.{Leaf}
-use Rattle.filterset_expression.specs.FlatExpressions.{IsFlat}
-use Rattle.filterset_expression.specs.declared.expression.CompiledExpr.{CompiledExpr}
-use Rattle.filterset_expression.specs.declared.flat.FlatExpr.{FlatExpr}
+use Rattle.filterset_expression.specs.{Expression.All, Expression.formula, Formula.Leaf, FlatExpressions.IsFlat}
+use Rattle.filterset_expression.specs.declared.{expression.CompiledExpr.CompiledExpr, flat.FlatExpr.FlatExpr}
 use Rattle.filterset_overrides.specs.Applying.{Text, sets, verdict}
 use Rattle.filterset_overrides.specs.declared.applying.ExplainedOverride.{ExplainedOverride}
-use Rattle.filterset_overrides.specs.declared.explaining.Giver.{Giver}
-use Rattle.filterset_overrides.specs.declared.explaining.Giver.TheVariants.{Override, Unknown}
+use Rattle.filterset_overrides.specs.declared.explaining.Giver.{Giver, TheVariants.Override, TheVariants.Unknown}
 use Rattle.filterset_overrides.specs.declared.asked.AskedOverride.{AskedOverride}
 
 -- the expression is all tests

@@ -1,17 +1,13 @@
 -- How many tests overrides apply to, and how many get settings from them.
 use Rattle.std.specs.Prelude.{◌≡◌, ◌==◌, ◌&&◌, All, Bool, true, false, not, List, [], ◌∷◌, ◌++◌, Option, MatchOption, is_some, length, map}
-use Rattle.std.specs.List.{AllZip, count_by, list_all}
-use Rattle.std.specs.Option.{is_none, unwrap_or}
+use Rattle.std.specs.{List.AllZip, List.count_by, List.list_all, Option.is_none, Option.unwrap_or}
 use Rattle.filterset_graph.specs.declared.package.PackageMetadata.{PackageMetadata}
 use Rattle.filterset_expression.specs.declared.expression.CompiledExpr.{CompiledExpr}
 use Rattle.filterset_overrides.specs.Applying.{AppliesAs, DoesApply, Test, Text, sets}
 use Rattle.filterset_overrides.specs.Giving.{AreDistinctOf, Gives, all_settings}
-use Rattle.filterset_overrides.specs.declared.applying.Application.{Application}
-use Rattle.filterset_overrides.specs.declared.applying.Application.TheVariants.{NotPicked}
-use Rattle.filterset_overrides.specs.declared.asked.AskedOverride.{AskedOverride}
-use Rattle.filterset_overrides.specs.declared.counting.OverrideRow.{OverrideRow}
-use Rattle.filterset_overrides.specs.declared.counting.OverrideTable.{OverrideTable}
-use Rattle.filterset_overrides.specs.declared.counting.TestCount.{TestCount}
+use Rattle.filterset_overrides.specs.declared.applying.Application.{Application, TheVariants.NotPicked}
+use Rattle.filterset_overrides.specs.declared.{asked.AskedOverride.AskedOverride, counting.OverrideRow.OverrideRow}
+use Rattle.filterset_overrides.specs.declared.counting.{OverrideTable.OverrideTable, TestCount.TestCount}
 
 -- how many of the tests have the answer yes, and for how many it is unknown
 abbrev pub AreCounted : (Test → Option Bool → Type 0) → List Test → TestCount → Type 0

@@ -1,15 +1,10 @@
 -- How overrides apply to a test, as text.
 use Rattle.std.specs.Prelude.{ℕ, List, [], ◌∷◌, ◌++◌, String, codes, slice_get, string_bytes}
-use Rattle.std.specs.List.{flat_map}
-use Rattle.std.specs.Option.{option_map_or}
-use Rattle.std.specs.Str.Lines.{lines}
-use Rattle.std.specs.declared.alloc.Global.{Global}
-use Rattle.filterset_overrides.specs.Applying.{Text}
-use Rattle.filterset_overrides.specs.declared.applying.Application.{Application}
+use Rattle.std.specs.{List.flat_map, Option.option_map_or, Str.Lines.lines, declared.alloc.Global.Global}
+use Rattle.filterset_overrides.specs.{Applying.Text, declared.applying.Application.Application}
 use Rattle.filterset_overrides.specs.declared.applying.Application.TheVariants.{Applies, NotPicked, OtherPlatform, UnknownPlatform}
 use Rattle.filterset_overrides.specs.declared.applying.ExplainedOverride.{ExplainedOverride}
-use Rattle.filterset_overrides.specs.declared.explaining.ExplainedSetting.{ExplainedSetting}
-use Rattle.filterset_overrides.specs.declared.explaining.Giver.{Giver}
+use Rattle.filterset_overrides.specs.declared.explaining.{ExplainedSetting.ExplainedSetting, Giver.Giver}
 use Rattle.filterset_overrides.specs.declared.explaining.Giver.TheVariants.{Override, Unknown, Profile, Nextest}
 use Rattle.filterset_overrides.specs.declared.explaining.TestOverrides.{TestOverrides}
 

@@ -6,11 +6,9 @@ use Rattle.filterset_expression.specs.declared.logic.Connective.TheVariants.{Con
 use Rattle.filterset_expression.specs.declared.expression.CompiledExpr.{CompiledExpr}
 use Rattle.filterset_graph.specs.declared.package.PackageMetadata.{PackageMetadata}
 use Rattle.filterset_overrides.specs.Applying.{AppliesAs, DoesApply, Test, Text, sets}
-use Rattle.filterset_overrides.specs.declared.asked.AskedOverride.{AskedOverride}
-use Rattle.filterset_overrides.specs.declared.asked.AskedProfile.{AskedProfile}
+use Rattle.filterset_overrides.specs.declared.asked.{AskedOverride.AskedOverride, AskedProfile.AskedProfile}
 use Rattle.filterset_overrides.specs.declared.applying.ExplainedOverride.{ExplainedOverride}
-use Rattle.filterset_overrides.specs.declared.explaining.ExplainedSetting.{ExplainedSetting}
-use Rattle.filterset_overrides.specs.declared.explaining.Giver.{Giver}
+use Rattle.filterset_overrides.specs.declared.explaining.{ExplainedSetting.ExplainedSetting, Giver.Giver}
 use Rattle.filterset_overrides.specs.declared.explaining.Giver.TheVariants.{Override, Unknown, Profile, Nextest}
 use Rattle.filterset_overrides.specs.declared.explaining.TestOverrides.{TestOverrides}
 

@@ -2,10 +2,8 @@
 use Rattle.std.specs.Prelude.{◌==◌, ◌&&◌, ℕ, zero, suc, Bool, true, not, List, [], ◌++◌, Option, Some, None, codes, decimal, if◌then◌else◌, is_some, slice_get, unwrap_or}
 use Rattle.std.specs.List.{flat_map, list_all, list_any}
 use Rattle.filterset_overrides.specs.Applying.{Text}
-use Rattle.filterset_overrides.specs.declared.counting.OverrideRow.{OverrideRow}
-use Rattle.filterset_overrides.specs.declared.counting.OverrideTable.{OverrideTable}
-use Rattle.filterset_overrides.specs.declared.counting.SettingColumn.{SettingColumn}
-use Rattle.filterset_overrides.specs.declared.counting.TestCount.{TestCount}
+use Rattle.filterset_overrides.specs.declared.counting.{OverrideRow.OverrideRow, OverrideTable.OverrideTable}
+use Rattle.filterset_overrides.specs.declared.counting.{SettingColumn.SettingColumn, TestCount.TestCount}
 
 -- of how many further tests it is unknown, if there are any
 abbrev pub unknown_text : ℕ → Text

@@ -2,13 +2,10 @@
 ghost use Rattle.std.specs.Prelude.{◌≡◌, ◌++◌, All, IfOk, IsTrue, List, OnOk};
 ghost use Rattle.std.specs.List.{AllZip};
 ghost use Rattle.filterset_graph.specs.declared.package.PackageMetadata.{PackageMetadata};
-ghost use Rattle.filterset_expression.specs.Contexts.{default_of};
-ghost use Rattle.filterset_expression.specs.Expression.{no_groups};
-ghost use Rattle.filterset_expression.specs.FlatExpressions.{IsTold};
+ghost use Rattle.filterset_expression.specs.{Contexts.default_of, Expression.no_groups, FlatExpressions.IsTold};
 ghost use Rattle.filterset_expression.specs.declared.expression.CompiledExpr.{CompiledExpr};
 ghost use Rattle.filterset_overrides.specs.Applying.{AppliesAs, HasApplication, IsCompiledOf, Test, tests_of, tests_of_one, verdict};
-ghost use Rattle.filterset_overrides.specs.Counting.{is_picked};
-ghost use Rattle.filterset_overrides.specs.Asking.{IsLaidOut};
+ghost use Rattle.filterset_overrides.specs.{Counting.is_picked, Asking.IsLaidOut};
 
 use crate::asked::{AskedOverride, ListedBinary};
 use filterset_expression::{CompiledExpr, EvalContext, FlatExpr, GroupLookup, TestQuery};

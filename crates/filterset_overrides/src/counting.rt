@@ -2,8 +2,7 @@
 ghost use Rattle.std.specs.Prelude.{◌≡◌, ◌==◌, All, IfOk, List, [], not};
 ghost use Rattle.std.specs.List.{list_any};
 ghost use Rattle.filterset_graph.specs.declared.package.PackageMetadata.{PackageMetadata};
-ghost use Rattle.filterset_expression.specs.Contexts.{default_of};
-ghost use Rattle.filterset_expression.specs.declared.expression.CompiledExpr.{CompiledExpr};
+ghost use Rattle.filterset_expression.specs.{Contexts.default_of, declared.expression.CompiledExpr.CompiledExpr};
 ghost use Rattle.filterset_overrides.specs.Applied.{AreApplied, overrides_of};
 ghost use Rattle.filterset_overrides.specs.Applying.{IsCompiledOf, Test, tests_of};
 ghost use Rattle.filterset_overrides.specs.Counting.{EachAfter, IsRow, IsTable};

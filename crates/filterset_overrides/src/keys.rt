@@ -1,7 +1,6 @@
 //! The keys that overrides and profiles set.
 ghost use Rattle.std.specs.Prelude.{◌++◌, IfOk, List, OnOk, map, string_bytes};
-ghost use Rattle.filterset_overrides.specs.Applying.{Text};
-ghost use Rattle.filterset_overrides.specs.Giving.{AreDistinctOf, all_settings};
+ghost use Rattle.filterset_overrides.specs.{Applying.Text, Giving.AreDistinctOf, Giving.all_settings};
 
 use crate::asked::{AskedOverride, AskedProfile};
 use std::alloc::{AllocError, Global};

@@ -2,23 +2,16 @@
 use Rattle.std.proofs.Common.{◌≡◌, ◌↔◌, ◌∙◌, ℕ, Bor, IsTrue, List, ap, get_or, length, map, refl, subst, sym}
 use Rattle.std.proofs.lemmas.List.{length-map, get_or-map}
 use Rattle.filterset_columns.specs.Columns.{answer_of, default_filter_of, names_of, test_of, Answered, IsAt}
-use Rattle.filterset_columns.specs.declared.column.Column.{Column}
-use Rattle.filterset_columns.specs.declared.expression.ColumnExpr.{ColumnExpr}
+use Rattle.filterset_columns.specs.declared.{column.Column.Column, expression.ColumnExpr.ColumnExpr}
 use Rattle.filterset_columns.proofs.ColumnLemmas.{some_item}
-use Rattle.filterset_expression.specs.Meaning.{Meaning}
-use Rattle.filterset_expression.specs.declared.expression.CompiledExpr.{CompiledExpr}
-use Rattle.filterset_expression.specs.declared.query.BinaryQuery.{BinaryQuery}
-use Rattle.filterset_expression.specs.declared.query.TestQuery.{TestQuery}
+use Rattle.filterset_expression.specs.{Meaning.Meaning, declared.expression.CompiledExpr.CompiledExpr}
+use Rattle.filterset_expression.specs.declared.query.{BinaryQuery.BinaryQuery, TestQuery.TestQuery}
 use Rattle.filterset_faults.specs.declared.span.SourceSpan.{SourceSpan}
 use Rattle.filterset_grammar.specs.Tree.{Tree}
 use Rattle.filterset_graph.specs.declared.binary.TestCaseName.{TestCaseName}
-use Rattle.filterset_report.specs.Asking.{IsLookupOf}
-use Rattle.filterset_report.specs.Library.{Background}
-use Rattle.filterset_report.specs.Lookup.{matches_recorded_group}
-use Rattle.filterset_report.specs.Record.{BinaryRow}
-use Rattle.filterset_report.specs.Rows.{binary_row}
-use Rattle.filterset_report.specs.declared.listed.ListedBinary.{ListedBinary}
-use Rattle.filterset_report.specs.declared.lookup.RecordLookup.{RecordLookup}
+use Rattle.filterset_report.specs.{Asking.IsLookupOf, Library.Background, Lookup.matches_recorded_group}
+use Rattle.filterset_report.specs.{Record.BinaryRow, Rows.binary_row}
+use Rattle.filterset_report.specs.declared.{listed.ListedBinary.ListedBinary, lookup.RecordLookup.RecordLookup}
 use Rattle.filterset_report.specs.declared.record.binaries.TestEntry.{TestEntry}
 
 module _ {A B C : Type 0} (f : A → C) (g : B → C) where

@@ -1,15 +1,8 @@
 -- The steps that make an index of items by texts of theirs.
 use Rattle.std.proofs.Common.{◌≡◌, ◌<◌, ◌+◌, ◌∙◌, ◌++◌, ◌∷◌, [], ℕ, Bool, true, false, cond, List, Option, None, Some, is_some, length, get_or, take, sym, ap, refl}
-use Rattle.std.specs.Prelude.{option_map}
-use Rattle.std.specs.Borrow.{Bor}
-use Rattle.std.specs.BTreeMap.{BTreeMap}
-use Rattle.std.specs.List.{find}
-use Rattle.std.specs.Map.{update}
-use Rattle.std.specs.Option.{option_or}
+use Rattle.std.specs.{Prelude.option_map, Borrow.Bor, BTreeMap.BTreeMap, List.find, Map.update, Option.option_or}
 use Rattle.std.specs.Str.{bytes_eq}
-use Rattle.std.proofs.lemmas.List.{take_more}
-use Rattle.std.proofs.lemmas.List.Folds.{find-append}
-use Rattle.std.proofs.lemmas.Slice.Eq.{bytes_eq-Decides}
+use Rattle.std.proofs.lemmas.{List.take_more, List.Folds.find-append, Slice.Eq.bytes_eq-Decides}
 use Rattle.filterset_json.specs.Shape.{Text}
 use Rattle.filterset_report.specs.Index.{IsIndexOf, entry_at}
 

@@ -7,13 +7,10 @@ use Rattle.std.proofs.lemmas.List.{append-nil, get_or-drop, length-append, lengt
 use Rattle.std.proofs.lemmas.Str.{IsCharBoundary-after_ascii, IsCharBoundary-start}
 use Rattle.filterset_columns.specs.Columns.{IsAt}
 use Rattle.filterset_columns.proofs.ColumnLemmas.{some_item}
-use Rattle.filterset_json.specs.Pieces.{Pieces}
 use Rattle.filterset_json.proofs.PieceLemmas.{Pieces-more}
-use Rattle.filterset_json.specs.Shape.{Text}
+use Rattle.filterset_json.specs.{Pieces.Pieces, Shape.Text}
 use Rattle.filterset_report.specs.Lines.{answer_text, lines_of, test_line}
-use Rattle.filterset_report.specs.Record.{TestRow}
-use Rattle.filterset_report.specs.Rows.{test_row}
-use Rattle.filterset_report.specs.declared.record.binaries.TestEntry.{TestEntry}
+use Rattle.filterset_report.specs.{Record.TestRow, Rows.test_row, declared.record.binaries.TestEntry.TestEntry}
 
 -- one line more
 pub lines_more : (id : Text) (answer : Bool) (tests : List TestEntry) (test : TestEntry)

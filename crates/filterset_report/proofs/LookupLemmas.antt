@@ -1,22 +1,15 @@
 -- The groups that a record puts tests in.
 use Rattle.std.proofs.Common.{◌≡◌, ◌↔◌, true, false, Bool, cond, List, [], ◌∷◌, map, Option, None, Some, ◌∙◌, ap, subst, sym, refl}
-use Rattle.std.specs.Prelude.{IsSomeAnd, option_map, string_bytes}
-use Rattle.std.specs.List.{find}
-use Rattle.std.specs.Str.{bytes_eq}
+use Rattle.std.specs.{Prelude.IsSomeAnd, Prelude.option_map, Prelude.string_bytes, List.find, Str.bytes_eq}
 use Rattle.filterset_matchers.specs.Matcher.{Matcher, MatchesName}
 use Rattle.filterset_expression.proofs.Meanings.{alike}
-use Rattle.filterset_expression.specs.declared.query.BinaryQuery.{BinaryQuery}
-use Rattle.filterset_expression.specs.declared.query.TestQuery.{TestQuery}
-use Rattle.filterset_columns.specs.Columns.{test_of}
-use Rattle.filterset_columns.specs.Grouped.{IsGrouped}
-use Rattle.filterset_columns.specs.declared.groups.GroupedTest.{GroupedTest}
+use Rattle.filterset_expression.specs.declared.query.{BinaryQuery.BinaryQuery, TestQuery.TestQuery}
+use Rattle.filterset_columns.specs.{Columns.test_of, Grouped.IsGrouped, declared.groups.GroupedTest.GroupedTest}
 use Rattle.filterset_json.specs.Shape.{Text}
-use Rattle.filterset_report.specs.Index.{group_with}
-use Rattle.filterset_report.specs.Record.{BinaryRow, TestRow}
+use Rattle.filterset_report.specs.{Index.group_with, Record.BinaryRow, Record.TestRow}
 use Rattle.filterset_report.specs.Lookup.{group_in, matches_recorded_group, recorded_group}
 use Rattle.filterset_report.specs.Rows.{binary_row, test_row}
-use Rattle.filterset_report.specs.declared.record.binaries.BinaryEntry.{BinaryEntry}
-use Rattle.filterset_report.specs.declared.record.binaries.TestEntry.{TestEntry}
+use Rattle.filterset_report.specs.declared.record.binaries.{BinaryEntry.BinaryEntry, TestEntry.TestEntry}
 
 -- what is found among the mapped is what the mapped of the found is
 mapped_step : {A B : Type 0} (f : A → B) (b : Bool) (x : A) (found : Option B) (rest : Option A) → found ≡ option_map f rest →

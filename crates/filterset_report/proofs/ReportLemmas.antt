@@ -1,23 +1,18 @@
 -- Texts that are made piece by piece.
 use Rattle.std.proofs.Common.{Result, Ok, Err, IfOk, ◌≡◌, ℕ, suc, Bool, true, false, ◌&&◌, add-zero, zero-add, arith, ◌+◌, ◌<◌, List, [], ◌∷◌, ◌++◌, length, map, take, get_or, ◌∙◌, sym, ap, subst, append_assoc, refl}
 use Rattle.std.specs.List.{enumerate_from}
-use Rattle.std.proofs.lemmas.List.{append-nil}
-use Rattle.std.proofs.lemmas.List.FromFn.{get_or-enumerate_from, length-enumerate_from}
-use Rattle.filterset_json.specs.Refusals.{Refuses}
-use Rattle.filterset_json.specs.Shape.{Text}
-use Rattle.filterset_json.specs.declared.refusal.EntryRefusal.{EntryRefusal}
-use Rattle.filterset_json.specs.declared.refusal.EntryRefusal.TheVariants.{Wrong, OutOfMemory}
+use Rattle.std.proofs.lemmas.List.{append-nil, FromFn.get_or-enumerate_from, FromFn.length-enumerate_from}
+use Rattle.std.proofs.Math.{Bool.and_assoc, Bool.and-true, Seq.take-length}
+use Rattle.filterset_json.specs.{Refusals.Refuses, Shape.Text}
+use Rattle.filterset_json.specs.declared.refusal.EntryRefusal.{EntryRefusal, TheVariants.Wrong, TheVariants.OutOfMemory}
 use Rattle.filterset_json.specs.declared.refusal.WrongValue.{WrongValue}
-use Rattle.filterset_report.specs.Library.{Background}
+use Rattle.filterset_report.specs.{Library.Background, Record.BinaryRow, Record.FiltersetRow, Record.RecordRow}
+use Rattle.filterset_report.specs.Report.{Account, RecordReport, Section, Sections, no_sections, next_section, outcome_of}
+use Rattle.filterset_report.specs.declared.outcome.ReportOutcome.{ReportOutcome}
+use Rattle.filterset_report.specs.declared.record.commands.Command.{Command}
 use Rattle.filterset_expression.specs.declared.expression.CompiledExpr.{CompiledExpr}
 use Rattle.filterset_graph.specs.declared.package.PackageMetadata.{PackageMetadata}
 use Rattle.nextest_filtering.specs.declared.compile.context.KnownGroups.{KnownGroups}
-use Rattle.filterset_report.specs.Report.{Account, RecordReport, Section, Sections, no_sections, next_section, outcome_of}
-use Rattle.filterset_report.specs.Record.{BinaryRow, FiltersetRow, RecordRow}
-use Rattle.filterset_report.specs.declared.record.commands.Command.{Command}
-use Rattle.filterset_report.specs.declared.outcome.ReportOutcome.{ReportOutcome}
-use Rattle.std.proofs.Math.Bool.{and_assoc, and-true}
-use Rattle.std.proofs.Math.Seq.{take-length}
 
 -- what two clauses say together
 pub both_ok : {X Y : Type 0} (r : Result X Y) (P Q R : X → Type 0) → ((x : X) → P x → Q x → R x) → IfOk r P → IfOk r Q → IfOk r R

@@ -2,14 +2,11 @@
 use Rattle.std.specs.Prelude.{◌≡◌, List, map}
 use Rattle.filterset_columns.specs.Columns.{default_filter_of, expr_of}
 use Rattle.filterset_columns.specs.declared.expression.ColumnExpr.{ColumnExpr}
-use Rattle.filterset_expression.specs.Meaning.{IsCompiled}
-use Rattle.filterset_expression.specs.FlatExpressions.{IsFlatOfTree}
+use Rattle.filterset_expression.specs.{Meaning.IsCompiled, FlatExpressions.IsFlatOfTree}
 use Rattle.filterset_expression.specs.declared.flat.FlatExpr.{FlatExpr}
 use Rattle.filterset_grammar.specs.Tree.{Tree}
 use Rattle.filterset_faults.specs.declared.span.SourceSpan.{SourceSpan}
-use Rattle.filterset_report.specs.declared.lookup.RecordLookup.{RecordLookup}
-use Rattle.filterset_report.specs.Library.{Background}
-use Rattle.filterset_report.specs.Record.{BinaryRow}
+use Rattle.filterset_report.specs.{declared.lookup.RecordLookup.RecordLookup, Library.Background, Record.BinaryRow}
 use Rattle.filterset_report.specs.Rows.{binary_row}
 
 -- the lookup tells the groups of the tests of these binaries

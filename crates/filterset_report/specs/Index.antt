@@ -1,11 +1,7 @@
 -- Indexes of a record's binaries by their ids, and of a binary's tests by their names.
 use Rattle.std.specs.Prelude.{◌≡◌, All, List, Option, Some, option_map, string_bytes}
-use Rattle.std.specs.Borrow.{Bor}
-use Rattle.std.specs.BTreeMap.{BTreeMap, get_by}
-use Rattle.std.specs.Cmp.Lexicographic.{slice_cmp}
-use Rattle.std.specs.List.{find}
-use Rattle.std.specs.Ordering.{nat_cmp}
-use Rattle.std.specs.Str.{bytes_eq}
+use Rattle.std.specs.{Borrow.Bor, BTreeMap.BTreeMap, BTreeMap.get_by, Cmp.Lexicographic.slice_cmp, List.find}
+use Rattle.std.specs.{Ordering.nat_cmp, Str.bytes_eq}
 use Rattle.filterset_columns.specs.declared.groups.GroupedTest.{GroupedTest}
 use Rattle.filterset_json.specs.Shape.{Text}
 use Rattle.filterset_report.specs.declared.record.binaries.TestEntry.{TestEntry}

@@ -1,14 +1,10 @@
 -- What the library says of the program's filtersets, binaries and tests.
 use Rattle.std.specs.Prelude.{◌≡◌, List, map}
-use Rattle.nextest_filtering.specs.Compiling.{packages_of}
+use Rattle.nextest_filtering.specs.{Compiling.packages_of, declared.compile.context.KnownGroups.KnownGroups}
 use Rattle.filterset_expression.specs.Contexts.{default_of}
+use Rattle.filterset_expression.specs.declared.{expression.CompiledExpr.CompiledExpr, query.BinaryQuery.BinaryQuery}
 use Rattle.filterset_graph.specs.declared.package.PackageMetadata.{PackageMetadata}
-use Rattle.nextest_filtering.specs.declared.compile.context.KnownGroups.{KnownGroups}
-use Rattle.filterset_expression.specs.declared.expression.CompiledExpr.{CompiledExpr}
-use Rattle.filterset_expression.specs.declared.query.BinaryQuery.{BinaryQuery}
-use Rattle.filterset_report.specs.declared.report.setting.Setting.{Setting}
-use Rattle.filterset_report.specs.Rows.{binary_row}
-use Rattle.filterset_report.specs.Record.{BinaryRow}
+use Rattle.filterset_report.specs.{declared.report.setting.Setting.Setting, Rows.binary_row, Record.BinaryRow}
 
 -- ---- what filtersets are read against and asked with
 

@@ -1,14 +1,10 @@
 -- Which group a record puts a test in.
 use Rattle.std.specs.Prelude.{List, Option, None, Some, IsSomeAnd}
-use Rattle.std.specs.List.{find}
-use Rattle.std.specs.Str.{bytes_eq}
+use Rattle.std.specs.{List.find, Str.bytes_eq}
 use Rattle.filterset_matchers.specs.Matcher.{MatchesName}
-use Rattle.filterset_expression.specs.Expression.{Lookup}
-use Rattle.filterset_expression.specs.declared.query.TestQuery.{TestQuery}
+use Rattle.filterset_expression.specs.{Expression.Lookup, declared.query.TestQuery.TestQuery}
 use Rattle.filterset_json.specs.Shape.{Text}
-use Rattle.filterset_report.specs.Index.{group_with}
-use Rattle.filterset_report.specs.Record.{BinaryRow}
-use Rattle.filterset_report.specs.declared.record.binaries.BinaryEntry.{BinaryEntry}
+use Rattle.filterset_report.specs.{Index.group_with, Record.BinaryRow, declared.record.binaries.BinaryEntry.BinaryEntry}
 
 -- the matcher matches the group of the first test with the name that is asked about, in the first binary with the id
 abbrev pub matches_recorded_group : List BinaryRow → Lookup

@@ -1,17 +1,13 @@
 -- The record of the program, and which JSON values stand for it.
 use Rattle.std.specs.Prelude.{◌≡◌, ◌⊎◌, true, List, [], ◌∷◌, codes, map, string_bytes, unwrap_or}
 use Rattle.serde_json.specs.Data.{Data}
-use Rattle.filterset_faults.specs.Texts.{kind_text}
-use Rattle.filterset_faults.specs.declared.kind.FiltersetKind.{FiltersetKind}
+use Rattle.filterset_faults.specs.{Texts.kind_text, declared.kind.FiltersetKind.FiltersetKind}
 use Rattle.filterset_faults.specs.declared.kind.FiltersetKind.TheVariants as kinds
 use Rattle.filterset_graph.specs.Binaries.{kind_of}
-use Rattle.filterset_graph.specs.declared.package.BuildPlatform.{BuildPlatform}
-use Rattle.filterset_graph.specs.declared.package.BuildTarget.{BuildTarget}
-use Rattle.filterset_graph.specs.declared.package.BuildTargetId.{BuildTargetId}
-use Rattle.filterset_graph.specs.declared.package.PackageMetadata.{PackageMetadata}
+use Rattle.filterset_graph.specs.declared.package.{BuildPlatform.BuildPlatform, BuildTarget.BuildTarget}
+use Rattle.filterset_graph.specs.declared.package.{BuildTargetId.BuildTargetId, PackageMetadata.PackageMetadata}
 use Rattle.filterset_json.specs.Shape.{Text, IsPlatform, IsText, IsBoolean, IsListOf, IsObjectWith, Required, Optional}
-use Rattle.filterset_report.specs.declared.record.commands.Command.{Command}
-use Rattle.filterset_report.specs.declared.record.commands.Command.TheVariants.{Report, Format}
+use Rattle.filterset_report.specs.declared.record.commands.Command.{Command, TheVariants.Report, TheVariants.Format}
 
 pub record TestRow : Type 0 where
   pub name : Text

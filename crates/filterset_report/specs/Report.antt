@@ -1,38 +1,27 @@
 -- Which reports, and which outcomes, a record may have.
 use Rattle.std.specs.Prelude.{◌≡◌, ◌⊎◌, ◌↔◌, ◌++◌, ◌&&◌, Bool, true, false, IsTrue, ℕ, suc, List, [], ◌∷◌, length, Option, Some, MatchOption, codes, decimal}
-use Rattle.std.specs.List.{flat_map}
-use Rattle.std.specs.Option.{option_map_or}
-use Rattle.std.specs.Str.{IsUtf8}
-use Rattle.serde_json.specs.Data.{Data}
-use Rattle.serde_json.specs.Read.{read}
+use Rattle.std.specs.{List.flat_map, Option.option_map_or, Str.IsUtf8}
+use Rattle.serde_json.specs.{Data.Data, Read.read}
 use Rattle.filterset_graph.specs.Packages.{ids, AllDiffer, IsFirstRepeat, LinksKnown, IsFirstUnknownLink}
 use Rattle.filterset_graph.specs.declared.package.PackageMetadata.{PackageMetadata}
-use Rattle.filterset_grammar.specs.Tree.{Tree}
-use Rattle.filterset_grammar.specs.Printing.{printed}
+use Rattle.filterset_grammar.specs.{Tree.Tree, Printing.printed}
 use Rattle.filterset_faults.specs.Faults.{code_of, span_of, label_of, help_of}
 use Rattle.filterset_faults.specs.Span.{offset_of, length_of}
-use Rattle.filterset_faults.specs.declared.span.SourceSpan.{SourceSpan}
-use Rattle.filterset_faults.specs.declared.error.ParseSingleError.{ParseSingleError}
+use Rattle.filterset_faults.specs.declared.{span.SourceSpan.SourceSpan, error.ParseSingleError.ParseSingleError}
 use Rattle.filterset_faults.specs.declared.kind.FiltersetKind.TheVariants as kinds
-use Rattle.filterset_json.specs.Shape.{Text}
-use Rattle.filterset_json.specs.Pieces.{Pieces}
+use Rattle.filterset_json.specs.{Shape.Text, Pieces.Pieces}
 use Rattle.filterset_report.specs.Record.{BinaryRow, FiltersetRow, TestRow, RecordRow, IsRecord}
-use Rattle.nextest_filtering.specs.Compiling.{IsFiltersetOf, IsRefusedWith}
-use Rattle.nextest_filtering.specs.Formatting.{PrintsFilterset}
-use Rattle.nextest_filtering.specs.declared.compile.context.KnownGroups.{KnownGroups}
-use Rattle.nextest_filtering.specs.Groups.{AreGroups}
+use Rattle.filterset_report.specs.{Library.Background, Library.IsAboutBinary, Lines.answer_text}
+use Rattle.filterset_report.specs.{Lookup.matches_recorded_group, declared.record.commands.Command.Command}
+use Rattle.filterset_report.specs.declared.outcome.ReportOutcome.{ReportOutcome}
+use Rattle.filterset_report.specs.declared.outcome.ReportOutcome.TheVariants.{AllAccepted, SomeRefused, RecordRefused}
+use Rattle.nextest_filtering.specs.{Compiling.IsFiltersetOf, Compiling.IsRefusedWith, Formatting.PrintsFilterset}
+use Rattle.nextest_filtering.specs.{declared.compile.context.KnownGroups.KnownGroups, Groups.AreGroups}
 use Rattle.filterset_expression.specs.BinaryMeaning.{IsDefiniteTree, IsUndecidedTree}
 use Rattle.filterset_expression.specs.Meaning.{IsCompiled, Meaning}
 use Rattle.filterset_expression.specs.declared.expression.CompiledExpr.{CompiledExpr}
-use Rattle.filterset_expression.specs.declared.query.BinaryQuery.{BinaryQuery}
-use Rattle.filterset_expression.specs.declared.query.TestQuery.{TestQuery}
-use Rattle.filterset_report.specs.Library.{Background, IsAboutBinary}
-use Rattle.filterset_report.specs.Lines.{answer_text}
-use Rattle.filterset_report.specs.Lookup.{matches_recorded_group}
-use Rattle.filterset_report.specs.declared.record.commands.Command.{Command}
+use Rattle.filterset_expression.specs.declared.query.{BinaryQuery.BinaryQuery, TestQuery.TestQuery}
 use Rattle.filterset_report.specs.declared.record.commands.Command.TheVariants as commands
-use Rattle.filterset_report.specs.declared.outcome.ReportOutcome.{ReportOutcome}
-use Rattle.filterset_report.specs.declared.outcome.ReportOutcome.TheVariants.{AllAccepted, SomeRefused, RecordRefused}
 
 -- ---- an accepted filterset
 

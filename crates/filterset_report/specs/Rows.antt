@@ -1,10 +1,8 @@
 -- The rows that the program's entries are.
 use Rattle.std.specs.Prelude.{map, string_bytes}
 use Rattle.filterset_report.specs.Record.{TestRow, BinaryRow, FiltersetRow, RecordRow}
-use Rattle.filterset_report.specs.declared.record.binaries.TestEntry.{TestEntry}
-use Rattle.filterset_report.specs.declared.record.binaries.BinaryEntry.{BinaryEntry}
-use Rattle.filterset_report.specs.declared.record.filtersets.FiltersetEntry.{FiltersetEntry}
-use Rattle.filterset_report.specs.declared.record.Record.{Record}
+use Rattle.filterset_report.specs.declared.record.binaries.{TestEntry.TestEntry, BinaryEntry.BinaryEntry}
+use Rattle.filterset_report.specs.declared.record.{filtersets.FiltersetEntry.FiltersetEntry, Record.Record}
 
 abbrev pub test_row : TestEntry → TestRow
 test_row test = record { name = test.name; group = string_bytes test.group }

@@ -1,10 +1,7 @@
 //! Looks up the groups of a record's tests.
-ghost use Rattle.std.specs.Prelude.{◌≡◌, IfOk, map, option_map};
-ghost use Rattle.std.specs.List.{find};
-ghost use Rattle.std.specs.Str.{bytes_eq};
+ghost use Rattle.std.specs.{Prelude.◌≡◌, Prelude.IfOk, Prelude.map, Prelude.option_map, List.find, Str.bytes_eq};
 ghost use Rattle.filterset_report.specs.Index.{group_with, HasFirsts, HaveGroups, IsIndexOf};
-ghost use Rattle.filterset_report.specs.Lookup.{matches_recorded_group, recorded_group};
-ghost use Rattle.filterset_report.specs.Rows.{binary_row};
+ghost use Rattle.filterset_report.specs.{Lookup.matches_recorded_group, Lookup.recorded_group, Rows.binary_row};
 
 use crate::listed::{ListedBinary, list_binaries};
 use crate::record::{BinaryEntry, TestEntry};

@@ -8,8 +8,7 @@ use std::alloc::{AllocError, Global};
 pub struct Filtersets;
 
 impl Program for Filtersets {
-    ghost use Rattle.filterset_report.specs.Report.{Report};
-    ghost use Rattle.filterset_report.specs.Ending.{status_of};
+    ghost use Rattle.filterset_report.specs.{Report.Report, Ending.status_of};
 
     type Outcome = ReportOutcome;
 

@@ -29,8 +29,7 @@ pub struct Record {
 }
 
 impl Entry for Record {
-    ghost use Rattle.filterset_report.specs.Record.{IsRecord, RecordRow};
-    ghost use Rattle.filterset_report.specs.Rows.{record_row};
+    ghost use Rattle.filterset_report.specs.{Record.IsRecord, Record.RecordRow, Rows.record_row};
 
     ghost Row = { RecordRow };
 

@@ -1,8 +1,7 @@
 //! Writes the report of a record.
 ghost use Rattle.std.specs.Prelude.{◌≡◌, IfOk, List, map, string_bytes};
 ghost use Rattle.filterset_graph.specs.Packages.{AllDiffer, LinksKnown, ids};
-ghost use Rattle.filterset_graph.specs.Refusals.{IsRefusalOf};
-ghost use Rattle.filterset_graph.specs.declared.package.PackageMetadata.{PackageMetadata};
+ghost use Rattle.filterset_graph.specs.{Refusals.IsRefusalOf, declared.package.PackageMetadata.PackageMetadata};
 ghost use Rattle.nextest_filtering.specs.Groups.{AreGroups, IsKnown};
 ghost use Rattle.filterset_json.specs.Shape.{Text};
 ghost use Rattle.filterset_report.specs.Report.{PackagesLine, RecordReport, Report};

@@ -1,15 +1,11 @@
 -- Where arguments end that are spelled as the grammar says.
 use Rattle.std.proofs.Common.{◌≡◌, ◌≢◌, ℕ, suc, ◌+◌, ◌<◌, ◌∙◌, ap, Bool, true, false, cond, eqb, List, [], ◌∷◌, ◌++◌, append_assoc, arith, drop, get_or, length, length-append, refl, subst, sym}
 use Rattle.std.specs.Prelude.{◌&&◌, ◌||◌, not}
-use Rattle.std.proofs.lemmas.Bool.{eqb-false, eqb-true, ne_eqb}
-use Rattle.std.proofs.lemmas.Bool.Decides.{nat_tests}
-use Rattle.std.proofs.lemmas.List.{drop_at}
+use Rattle.std.proofs.lemmas.{Bool.eqb-false, Bool.eqb-true, Bool.ne_eqb, Bool.Decides.nat_tests, List.drop_at}
 use Rattle.filterset_grammar.specs.Grammar.{begins_plainly}
 use Rattle.filterset_grammar.specs.Text.{Blanks, Escape, HexDigits, SlashesFollow, Spelled, ends_in_backslash, escaped, hex_value, hexadecimal, is_plain, letter, newline, no_blank, nothing, plain, return_newline, space}
-use Rattle.filterset_language.proofs.Formed.{ends_front}
-use Rattle.filterset_language.proofs.Positions.{one_blank, one_newline}
-use Rattle.filterset_language.specs.Parsing.Front.{blank_len}
-use Rattle.filterset_language.specs.Parsing.RawTexts.{body_len}
+use Rattle.filterset_language.proofs.{Formed.ends_front, Positions.one_blank, Positions.one_newline}
+use Rattle.filterset_language.specs.Parsing.{Front.blank_len, RawTexts.body_len}
 use Rattle.filterset_rewriting.specs.Nesting.Arguments.{IsBody, raw_len}
 
 -- ---- raw texts

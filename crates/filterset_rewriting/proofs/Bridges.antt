@@ -1,24 +1,18 @@
 -- What is left of a tree says of every test and every binary what the tree says.
 use Rattle.std.proofs.Common.{◌≡◌, ◌↔◌, Bool, true, false, List, [], length, take, drop, replicate, refl, sym, ◌∙◌, ap, subst, Option, Some, None}
-use Rattle.std.specs.Prelude.{not, IsTrue}
-use Rattle.std.specs.Bool.{one_answer}
-use Rattle.std.proofs.lemmas.Bool.{false≢true}
-use Rattle.std.proofs.lemmas.List.{length-replicate}
-use Rattle.std.proofs.Math.Bool.{not-not}
-use Rattle.filterset_expression.specs.BinaryMeaning.{EitherLeaf, is_either_of_test, EitherOfBinary, tree_leaf_with_default, tree_with_default, IsDefiniteTree, IsUndecidedTree}
-use Rattle.filterset_expression.specs.Connectives.{connected}
-use Rattle.filterset_expression.specs.declared.logic.Connective.{Connective}
-use Rattle.filterset_expression.specs.declared.logic.Connective.TheVariants.{Conjunction, Disjunction, ExclusiveDisjunction}
-use Rattle.filterset_expression.specs.Expression.{Lookup}
-use Rattle.filterset_expression.specs.Formula.{Formula, Negation, Compound, TrueWhere}
-use Rattle.filterset_expression.specs.Meaning.{tree_formula, MeansOfBinary, MeansOfTest}
-use Rattle.filterset_expression.specs.Values.{occurrences, TrueUnder, CanBe}
-use Rattle.filterset_expression.specs.declared.expression.CompiledExpr.{CompiledExpr}
-use Rattle.filterset_expression.specs.declared.query.BinaryQuery.{BinaryQuery}
-use Rattle.filterset_expression.specs.declared.query.TestQuery.{TestQuery}
+use Rattle.std.specs.{Prelude.not, Prelude.IsTrue, Bool.one_answer}
+use Rattle.std.proofs.{lemmas.Bool.false≢true, lemmas.List.length-replicate, Math.Bool.not-not}
 use Rattle.filterset_expression.proofs.Connectives.{connected_decides}
 use Rattle.filterset_expression.proofs.Exact.{compound_can_be, front_length, back_length, same_unless}
 use Rattle.filterset_expression.proofs.Folding.{decides_not}
+use Rattle.filterset_expression.specs.BinaryMeaning.{EitherLeaf, is_either_of_test, EitherOfBinary, tree_leaf_with_default, tree_with_default, IsDefiniteTree, IsUndecidedTree}
+use Rattle.filterset_expression.specs.{Connectives.connected, Expression.Lookup}
+use Rattle.filterset_expression.specs.Formula.{Formula, Negation, Compound, TrueWhere}
+use Rattle.filterset_expression.specs.Meaning.{tree_formula, MeansOfBinary, MeansOfTest}
+use Rattle.filterset_expression.specs.Values.{occurrences, TrueUnder, CanBe}
+use Rattle.filterset_expression.specs.declared.{expression.CompiledExpr.CompiledExpr, logic.Connective.Connective}
+use Rattle.filterset_expression.specs.declared.logic.Connective.TheVariants.{Conjunction, Disjunction, ExclusiveDisjunction}
+use Rattle.filterset_expression.specs.declared.query.{BinaryQuery.BinaryQuery, TestQuery.TestQuery}
 use Rattle.filterset_grammar.specs.Tree as tree
 use Rattle.filterset_grammar.specs.Tree.{Leaf, Matching, Platform, Default, Tree, Not, Union, Join, Parens, Set}
 use Rattle.filterset_grammar.specs.declared.operators.Joiner.TheVariants.{Both, Without, ExactlyOne}
@@ -28,9 +22,7 @@ use Rattle.filterset_rewriting.specs.Simplifying.Alike.{alike_leaves}
 use Rattle.filterset_rewriting.specs.Simplifying.Answers.{PickAlike, IsBinaryAnswer, KeepsDecided}
 use Rattle.filterset_rewriting.specs.Simplifying.Reducing.{reduced, tree_of_rest}
 use Rattle.filterset_rewriting.proofs.Later.{Later, at_once, bind, decided}
-use Rattle.filterset_rewriting.proofs.Leaves.{binary_alike, test_alike}
-use Rattle.filterset_rewriting.proofs.Resting.{reduced_takes}
-use Rattle.filterset_rewriting.proofs.Taking.{Takes}
+use Rattle.filterset_rewriting.proofs.{Leaves.binary_alike, Leaves.test_alike, Resting.reduced_takes, Taking.Takes}
 
 -- the value whose negation says that a proposition fails
 turned_value : (P : Type 0) (d v : Bool) → (IsTrue d ↔ P) → (IsTrue v ↔ (¬ P)) → d ≡ not v

@@ -2,14 +2,12 @@
 use Rattle.std.proofs.Common.{List, [], ℕ}
 use Rattle.std.proofs.lemmas.List.Elements.{All-append, All-cons, All-nil}
 use Rattle.filterset_faults.specs.declared.span.SourceSpan.{SourceSpan}
-use Rattle.filterset_grammar.specs.AddedParens.{HasWellFormedLeaves}
-use Rattle.filterset_grammar.specs.Printing.{IsWellFormedLeaf, WellFormed}
+use Rattle.filterset_grammar.specs.{AddedParens.HasWellFormedLeaves, Printing.IsWellFormedLeaf, Printing.WellFormed}
 use Rattle.filterset_grammar.specs.Tree.{Tree, Not, Union, Join, Parens, Set, tree_leaves}
 use Rattle.filterset_language.proofs.Formed.{spelled_is_well_formed}
 use Rattle.filterset_rewriting.specs.Calls.{AreJoined, IsFront, IsList, IsOperand, call, expression, last, list, more, operand}
 use Rattle.filterset_rewriting.specs.Links.{linked}
-use Rattle.filterset_rewriting.specs.declared.links.Link.{Link}
-use Rattle.filterset_rewriting.specs.declared.links.Link.TheVariants.{Every, Any}
+use Rattle.filterset_rewriting.specs.declared.links.Link.{Link, TheVariants.Every, TheVariants.Any}
 
 formed_leaves : {S : Type 0} (e : Tree S) → WellFormed e → HasWellFormedLeaves e
 formed_leaves (Not op e) h = formed_leaves e h.1

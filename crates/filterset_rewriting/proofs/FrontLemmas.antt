@@ -1,17 +1,12 @@
 -- What the parser says of a text that begins with an expression.
 use Rattle.std.proofs.Common.{◌≡◌, ◌≢◌, inl, inr, ⊎_elim, ◌⊎◌, List, [], ◌∷◌, ℕ, refl, sym, ◌∙◌, Option, Some, None}
-use Rattle.std.specs.Borrow.{Bor}
-use Rattle.std.specs.Prelude.{All, MatchOption}
-use Rattle.std.specs.Str.{trim_start}
-use Rattle.filterset_faults.specs.declared.error.ParseSingleError.{ParseSingleError}
-use Rattle.filterset_faults.specs.declared.span.SourceSpan.{SourceSpan}
-use Rattle.filterset_grammar.specs.Grammar.{Spells}
-use Rattle.filterset_grammar.specs.Tree.{Tree}
+use Rattle.std.specs.{Borrow.Bor, Prelude.All, Prelude.MatchOption, Str.trim_start}
+use Rattle.filterset_faults.specs.declared.{error.ParseSingleError.ParseSingleError, span.SourceSpan.SourceSpan}
+use Rattle.filterset_grammar.specs.{Grammar.Spells, Tree.Tree}
 use Rattle.filterset_language.specs.Faults.{FaultStands}
 use Rattle.filterset_language.specs.Parsed.{Comes, HasRefusedBodies, IsUnreadWith, Reads}
 use Rattle.filterset_language.specs.declared.parsing.parse.Parsed.{Parsed}
-use Rattle.filterset_rewriting.specs.Calls.{Begins, Lacks}
-use Rattle.filterset_rewriting.specs.Fronts.{IsMore, NoExpression}
+use Rattle.filterset_rewriting.specs.{Calls.Begins, Calls.Lacks, Fronts.IsMore, Fronts.NoExpression}
 
 -- faults of a parse refuse the text
 pub refused : (text : List ℕ) (p : Parsed) → All (FaultStands text) p.faults.items

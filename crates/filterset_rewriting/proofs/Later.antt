@@ -1,7 +1,6 @@
 -- What cannot fail to hold. Whether a predicate matches is a proposition, and nothing decides it without asking.
-use Rattle.std.proofs.Common.{◌↔◌, Bool, true, false, refl}
+use Rattle.std.proofs.{Common.◌↔◌, Common.Bool, Common.true, Common.false, Common.refl, lemmas.Bool.false≢true}
 use Rattle.std.specs.Bool.{IsTrue}
-use Rattle.std.proofs.lemmas.Bool.{false≢true}
 
 abbrev pub Later : Type 0 → Type 0
 Later P = ¬ (¬ P)

@@ -1,24 +1,17 @@
 -- Predicates that are alike say the same.
 use Rattle.std.proofs.Common.{◌≡◌, ◌↔◌, ℕ, true, List, refl, ap}
-use Rattle.std.specs.Prelude.{◌&&◌}
-use Rattle.std.specs.Bool.{beq}
-use Rattle.std.specs.Cmp.{booleans_Decides}
-use Rattle.std.specs.Str.{bytes_eq}
-use Rattle.std.proofs.lemmas.Bool.{false≢true, and_parts}
-use Rattle.std.proofs.lemmas.Slice.Eq.{bytes_eq-Decides}
+use Rattle.std.specs.{Prelude.◌&&◌, Bool.beq, Cmp.booleans_Decides, Str.bytes_eq}
+use Rattle.std.proofs.lemmas.{Bool.false≢true, Bool.and_parts, Slice.Eq.bytes_eq-Decides}
 use Rattle.filterset_glob.specs.Equality.{same_tokens, same_tokens_is}
 use Rattle.filterset_expression.proofs.Meanings.{alike_at}
 use Rattle.filterset_expression.specs.Expression.{Lookup}
 use Rattle.filterset_expression.specs.Meaning.{IsPackage, IsDependency, IsDependent, MeansOfBinary, MeansOfTest}
 use Rattle.filterset_expression.specs.declared.expression.CompiledExpr.{CompiledExpr}
-use Rattle.filterset_expression.specs.declared.query.BinaryQuery.{BinaryQuery}
-use Rattle.filterset_expression.specs.declared.query.TestQuery.{TestQuery}
-use Rattle.filterset_grammar.specs.Equality.{same_platform}
-use Rattle.filterset_grammar.specs.Tree as tree
-use Rattle.filterset_grammar.specs.Tree.{Leaf, Matching, Platform, Default}
+use Rattle.filterset_expression.specs.declared.query.{BinaryQuery.BinaryQuery, TestQuery.TestQuery}
+use Rattle.filterset_grammar.specs.{Equality.same_platform, Tree.Leaf, Tree.Matching, Tree.Platform, Tree.Default}
 use Rattle.filterset_grammar.specs.declared.predicate.Predicate.TheVariants.{Package, Deps, Rdeps, Kind, Binary, BinaryId, Test, Group}
-use Rattle.filterset_graph.specs.declared.package.BuildPlatform.{BuildPlatform}
-use Rattle.filterset_graph.specs.declared.package.BuildPlatform.TheVariants.{Target, Host}
+use Rattle.filterset_grammar.specs.Tree as tree
+use Rattle.filterset_graph.specs.declared.package.BuildPlatform.{BuildPlatform, TheVariants.Target, TheVariants.Host}
 use Rattle.filterset_graph.specs.declared.package.PackageMetadata.{PackageMetadata}
 use Rattle.filterset_matchers.specs.Matcher.{Matcher, Equal, Contains, Glob, Regex, MatchesName}
 use Rattle.filterset_rewriting.specs.Simplifying.Alike.{alike_matchers, identical_matchers, alike_leaves}

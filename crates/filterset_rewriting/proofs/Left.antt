@@ -1,26 +1,22 @@
 -- What is left of a tree has its predicates and operators, in their order.
-use Rattle.std.proofs.Common.{Bool, true, false}
+use Rattle.std.proofs.{Common.Bool, Common.true, Common.false, lemmas.List.Elements.All-append}
 use Rattle.std.specs.Prelude.{Option, Some, None}
-use Rattle.std.proofs.lemmas.List.Elements.{All-append}
 use Rattle.filterset_grammar.specs.AddedParens as added
 use Rattle.filterset_grammar.specs.AddedParens.{IsEnclosedUnless, IsWithParens, HasWellFormedLeaves}
 use Rattle.filterset_grammar.specs.Printing.{IsWellFormedLeaf}
-use Rattle.filterset_grammar.specs.Tree as tree
 use Rattle.filterset_grammar.specs.Tree.{Leaf, Matching, Platform, Default, Tree, Not, Union, Join, Parens, Set, tree_leaves}
 use Rattle.filterset_grammar.specs.declared.operators.Joiner.{Joiner}
 use Rattle.filterset_grammar.specs.declared.operators.Joiner.TheVariants.{Both, Without, ExactlyOne}
-use Rattle.filterset_grammar.specs.declared.operators.AndOperator.{AndOperator}
-use Rattle.filterset_grammar.specs.declared.operators.DifferenceOperator.{DifferenceOperator}
-use Rattle.filterset_grammar.specs.declared.operators.NotOperator.{NotOperator}
-use Rattle.filterset_grammar.specs.declared.operators.NotOperator.TheVariants.{LiteralNot}
+use Rattle.filterset_grammar.specs.declared.operators.{AndOperator.AndOperator, DifferenceOperator.DifferenceOperator}
+use Rattle.filterset_grammar.specs.declared.operators.NotOperator.{NotOperator, TheVariants.LiteralNot}
 use Rattle.filterset_grammar.specs.declared.operators.OrOperator.{OrOperator}
 use Rattle.filterset_grammar.specs.declared.operators.SymmetricDifferenceOperator.{SymmetricDifferenceOperator}
+use Rattle.filterset_grammar.specs.Tree as tree
 use Rattle.filterset_rewriting.specs.Simplifying.Alike.{alike}
 use Rattle.filterset_rewriting.specs.Simplifying.Implying.{implies, says_one_of, admits_fact_of}
 use Rattle.filterset_rewriting.specs.Simplifying.Pruned.{IsLeftOf, leaf, negation, union, join, of_negation, of_union_left, of_union_right, of_join_left, of_join_right, left_negated, right_negated, of_parens, enclosed}
 use Rattle.filterset_rewriting.specs.Simplifying.Reducing.{Rest, Constant, Reduced, both_kept, kept_unless, kept_disjuncts, kept_conjuncts, negated, left_kept, right_kept, united, intersected, none_if, subtracted, differing, reduced}
-use Rattle.filterset_rewriting.proofs.Parts.{IfKept}
-use Rattle.filterset_rewriting.proofs.Spelled.{both_all}
+use Rattle.filterset_rewriting.proofs.{Parts.IfKept, Spelled.both_all}
 
 -- what a tree negates, or itself
 abbrev stripped : {S : Type 0} → Tree S → Tree S

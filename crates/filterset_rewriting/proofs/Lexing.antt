@@ -1,31 +1,26 @@
 -- What a text begins with is found.
 use Rattle.std.proofs.Common.{◌≡◌, ℕ, ◌+◌, ◌<◌, ◌∙◌, Bool, true, false, cond, eqb, List, [], ◌∷◌, ◌++◌, None, Some, add-zero, ap, append_assoc, arith, drop, get_or, length, refl, subst, sym, take}
-use Rattle.std.specs.Prelude.{IsTrue, ◌||◌}
-use Rattle.std.specs.List.{prefix_len, take_while}
-use Rattle.std.proofs.lemmas.Bool.{eq-eqb, ne_eqb}
-use Rattle.std.proofs.lemmas.Bool.Decides.{nat_tests}
-use Rattle.std.proofs.lemmas.List.{append-nil, drop_at, take_at}
-use Rattle.std.proofs.lemmas.List.Folds.{length-prefix_len, prefix_len-append}
+use Rattle.std.specs.{Prelude.IsTrue, Prelude.◌||◌, List.prefix_len, List.take_while}
+use Rattle.std.proofs.lemmas.Bool.{eq-eqb, ne_eqb, Decides.nat_tests}
+use Rattle.std.proofs.lemmas.List.{append-nil, drop_at, take_at, Folds.length-prefix_len, Folds.prefix_len-append}
 use Rattle.filterset_faults.specs.declared.span.SourceSpan.{SourceSpan}
 use Rattle.filterset_grammar.specs.Grammar as grammar
 use Rattle.filterset_grammar.specs.Grammar.{BehindMatcher, Call, LeafText, MatcherText, Matches, Name, implicit, matching_sign, own_matching, regex, signed}
 use Rattle.filterset_grammar.specs.Text.{Blanks, Spelled, ends_word, is_between, newline, no_blank, plain, return_newline, space}
 use Rattle.filterset_grammar.specs.Tree.{Leaf}
-use Rattle.filterset_grammar.specs.declared.predicate.Predicate.{Predicate}
+use Rattle.filterset_grammar.specs.declared.predicate.{Predicate.Predicate, TextMatching.TextMatching}
 use Rattle.filterset_grammar.specs.declared.predicate.Predicate.TheVariants as predicates
-use Rattle.filterset_grammar.specs.declared.predicate.TextMatching.{TextMatching}
 use Rattle.filterset_grammar.specs.declared.predicate.TextMatching.TheVariants as ways
 use Rattle.filterset_language.proofs.SpelledLeavesAreRead.{byte_stop, call_text}
 use Rattle.filterset_language.specs.Parsing.Front.{blank_len}
 use Rattle.filterset_matchers.specs.Matcher.{Matcher}
 use Rattle.filterset_rewriting.proofs.ArgumentLemmas.{plain_no_slash, plain_stop}
-use Rattle.filterset_rewriting.specs.Nesting.Arguments as arguments
 use Rattle.filterset_rewriting.specs.Nesting.Arguments.{IsArgument, IsMatcher, argument_of}
-use Rattle.filterset_rewriting.specs.Nesting.Tokens as tokens
 use Rattle.filterset_rewriting.specs.Nesting.Tokens.{Begins, IsPredicateAfter, is_letter, sign_token, word_token}
-use Rattle.filterset_rewriting.specs.declared.nesting.arguments.ArgumentKind.{ArgumentKind}
+use Rattle.filterset_rewriting.specs.declared.nesting.{arguments.ArgumentKind.ArgumentKind, tokens.Lexeme.Lexeme}
+use Rattle.filterset_rewriting.specs.Nesting.Arguments as arguments
+use Rattle.filterset_rewriting.specs.Nesting.Tokens as tokens
 use Rattle.filterset_rewriting.specs.declared.nesting.arguments.ArgumentKind.TheVariants as kinds
-use Rattle.filterset_rewriting.specs.declared.nesting.tokens.Lexeme.{Lexeme}
 use Rattle.filterset_rewriting.specs.declared.nesting.tokens.Lexeme.TheVariants as shown
 
 -- ---- words

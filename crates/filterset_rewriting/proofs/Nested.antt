@@ -1,19 +1,16 @@
 -- A filterset that nests within a limit is passed over by levels within it, and one that does not is not.
 use Rattle.std.proofs.Common.{◌≡◌, ℕ, ◌+◌, ◌<◌, ◌≤◌, ◌∙◌, ap, Bool, true, false, List, [], ◌∷◌, ◌++◌, append_assoc, arith, drop, length, length-append, refl, subst, sym, ⊎_elim}
 use Rattle.std.specs.Prelude.{IsTrue, codes}
-use Rattle.std.proofs.lemmas.Bool.{cases_lt}
-use Rattle.std.proofs.lemmas.List.{append-nil, drop-drop}
+use Rattle.std.proofs.lemmas.{Bool.cases_lt, List.append-nil, List.drop-drop}
 use Rattle.std.proofs.Math.Nat.{le-max_left, le-max_right}
 use Rattle.filterset_faults.specs.declared.span.SourceSpan.{SourceSpan}
 use Rattle.filterset_grammar.specs.Grammar as grammar
 use Rattle.filterset_grammar.specs.Grammar.{AndLevel, Basic, OrLevel, Spells, join_ends, join_text, not_ends, not_text, or_ends, or_text}
 use Rattle.filterset_grammar.specs.Text.{Blanks, ends_word, newline, no_blank, return_newline, space}
-use Rattle.filterset_grammar.specs.Tree.{Tree}
-use Rattle.filterset_grammar.specs.declared.operators.Joiner.{Joiner}
+use Rattle.filterset_grammar.specs.{Tree.Tree, declared.operators.Joiner.Joiner}
 use Rattle.filterset_grammar.specs.declared.operators.Joiner.TheVariants.{Both, ExactlyOne, Without}
 use Rattle.filterset_grammar.specs.declared.operators.AndOperator.TheVariants.{Ampersand, LiteralAnd}
-use Rattle.filterset_grammar.specs.declared.operators.DifferenceOperator.TheVariants.{Minus}
-use Rattle.filterset_grammar.specs.declared.operators.NotOperator.{NotOperator}
+use Rattle.filterset_grammar.specs.declared.operators.{DifferenceOperator.TheVariants.Minus, NotOperator.NotOperator}
 use Rattle.filterset_grammar.specs.declared.operators.NotOperator.TheVariants.{Exclamation, LiteralNot}
 use Rattle.filterset_grammar.specs.declared.operators.OrOperator.{OrOperator}
 use Rattle.filterset_grammar.specs.declared.operators.OrOperator.TheVariants.{LiteralOr, Pipe, Plus}
@@ -21,11 +18,10 @@ use Rattle.filterset_grammar.specs.declared.operators.SymmetricDifferenceOperato
 use Rattle.filterset_language.proofs.SpelledIsNotEmpty.{and_some, basic_some, leaf_some}
 use Rattle.filterset_rewriting.specs.Nesting.Depth.{depth}
 use Rattle.filterset_rewriting.specs.Nesting.Levels.{After, Rest, between, closed, deep_negation, deep_open, ended, negation, opened, predicate}
-use Rattle.filterset_rewriting.specs.Nesting.Tokens as tokens
 use Rattle.filterset_rewriting.specs.Nesting.Tokens.{Begins}
-use Rattle.filterset_rewriting.specs.declared.nesting.tokens.Lexeme.{Lexeme}
+use Rattle.filterset_rewriting.specs.declared.nesting.tokens.Lexeme.{Lexeme, TheVariants.Between, TheVariants.Negation}
+use Rattle.filterset_rewriting.specs.Nesting.Tokens as tokens
 use Rattle.filterset_rewriting.specs.declared.nesting.tokens.Lexeme.TheVariants as kinds
-use Rattle.filterset_rewriting.specs.declared.nesting.tokens.Lexeme.TheVariants.{Between, Negation}
 
 -- ---- tokens of a filterset
 

@@ -8,9 +8,7 @@ use Rattle.filterset_language.specs.Views.{tree_of}
 use Rattle.filterset_rewriting.specs.Calls.{AreJoined, AreOpen, Begins, IsFront, IsList, IsOperand, Lacks, NoFront, NoList, NoOperand, call, end_sign, expression, last, list, more, no_call, no_end, no_expression, operand, too_deep, unclosed}
 use Rattle.filterset_rewriting.specs.Fronts.{IsExpression, NoExpression}
 use Rattle.filterset_rewriting.specs.Links.{IsOperator, NoOperator, linked}
-use Rattle.filterset_rewriting.specs.declared.fronts.Front.{Front}
-use Rattle.filterset_rewriting.specs.declared.links.Link.{Link}
-use Rattle.filterset_rewriting.specs.declared.operands.Operand.{Operand}
+use Rattle.filterset_rewriting.specs.declared.{fronts.Front.Front, links.Link.Link, operands.Operand.Operand}
 
 -- the outcome is nothing, for this reason, or this front
 abbrev pub Gives : {E : Type 0} → Type 0 → (Tree SourceSpan → List ℕ → Type 0) → Result (Option Front) E → Type 0

@@ -4,15 +4,13 @@ use Rattle.std.specs.Prelude.{◌||◌, Contains, Option, Some, None}
 use Rattle.std.proofs.lemmas.Bool.{or_from as or_none, or_parts}
 use Rattle.std.proofs.lemmas.List.Elements.{Contains-append_left, Contains-append_right, Contains-append_cases}
 use Rattle.filterset_grammar.specs.AddedParens.{IsEnclosedUnless, stands, enclosed, IsWithParens, negation, union, join, parens, leaf}
-use Rattle.filterset_grammar.specs.Tree as tree
 use Rattle.filterset_grammar.specs.Tree.{Matching, Platform, Default, Tree, Not, Union, Join, Parens, Set}
 use Rattle.filterset_grammar.specs.declared.operators.Joiner.TheVariants.{Both, Without, ExactlyOne}
-use Rattle.filterset_grammar.specs.declared.operators.AndOperator.{AndOperator}
-use Rattle.filterset_grammar.specs.declared.operators.DifferenceOperator.{DifferenceOperator}
-use Rattle.filterset_grammar.specs.declared.operators.NotOperator.{NotOperator}
-use Rattle.filterset_grammar.specs.declared.operators.OrOperator.{OrOperator}
+use Rattle.filterset_grammar.specs.declared.operators.{AndOperator.AndOperator, DifferenceOperator.DifferenceOperator}
+use Rattle.filterset_grammar.specs.declared.operators.{NotOperator.NotOperator, OrOperator.OrOperator}
 use Rattle.filterset_grammar.specs.declared.operators.SymmetricDifferenceOperator.{SymmetricDifferenceOperator}
 use Rattle.filterset_grammar.specs.declared.operators.NotOperator.TheVariants.{LiteralNot}
+use Rattle.filterset_grammar.specs.Tree as tree
 use Rattle.filterset_rewriting.specs.Simplifying.Alike.{alike}
 use Rattle.filterset_rewriting.specs.Simplifying.Implying.{disjuncts, conjuncts, facts, says, admits, implies, says_one_of, admits_fact_of}
 use Rattle.filterset_rewriting.specs.Simplifying.Reducing.{Rest, Constant, Reduced, both_kept, kept_unless, kept_disjuncts, kept_conjuncts, negated_tree, negated, left_kept, right_kept, united_trees, united, intersected_trees, intersected, none_if, subtracted, differing, reduced}

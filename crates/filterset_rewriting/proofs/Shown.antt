@@ -1,12 +1,11 @@
 -- Parentheses that show how a tree is read leave it as it is.
 use Rattle.std.proofs.Common.{◌≡◌, Bool, true, false, refl, ap, ◌∙◌}
-use Rattle.filterset_expression.specs.declared.logic.Connective.TheVariants.{Disjunction}
-use Rattle.filterset_expression.specs.Formula.{Formula}
-use Rattle.filterset_expression.specs.Formula as formulas
+use Rattle.filterset_expression.specs.{declared.logic.Connective.TheVariants.Disjunction, Formula.Formula}
 use Rattle.filterset_expression.specs.Meaning.{joined, tree_formula}
+use Rattle.filterset_expression.specs.Formula as formulas
 use Rattle.filterset_grammar.specs.Printing.{IsBasic, IsNoUnion, WellFormed}
-use Rattle.filterset_grammar.specs.Tree as tree
 use Rattle.filterset_grammar.specs.Tree.{Tree, Not, Union, Join, Parens, Set}
+use Rattle.filterset_grammar.specs.Tree as tree
 use Rattle.filterset_rewriting.specs.Showing.{enclosed_if, is_joined, is_joined_otherwise, shown, without_parens}
 
 bare_enclosed : {S : Type 0} (b : Bool) (e : Tree S) → without_parens (enclosed_if b e) ≡ without_parens e

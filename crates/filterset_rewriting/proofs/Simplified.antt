@@ -3,17 +3,13 @@ use Rattle.std.proofs.Common.{◌≡◌, ◌↔◌, ◌⊎◌, Bool, true, false
 use Rattle.std.specs.Prelude.{IsTrue, MatchOption}
 use Rattle.std.proofs.lemmas.List.Elements.{All-nil, All-cons}
 use Rattle.filterset_expression.specs.BinaryMeaning.{is_either_of_test, EitherOfBinary, tree_leaf_with_default}
-use Rattle.filterset_expression.specs.Formula.{TrueWhere, replaced}
-use Rattle.filterset_expression.specs.Meaning.{MeansOfTest}
-use Rattle.filterset_expression.specs.Values.{CanBe}
+use Rattle.filterset_expression.specs.{Formula.TrueWhere, Formula.replaced, Meaning.MeansOfTest, Values.CanBe}
 use Rattle.filterset_expression.proofs.AddedParens.{same_formula}
 use Rattle.filterset_grammar.specs.AddedParens.{IsWithParens, leaf, HasWellFormedLeaves}
-use Rattle.filterset_grammar.specs.Printing.{IsWellFormedLeaf}
+use Rattle.filterset_grammar.specs.{Printing.IsWellFormedLeaf, Tree.Tree, Tree.Set}
 use Rattle.filterset_grammar.specs.Tree as tree
-use Rattle.filterset_grammar.specs.Tree.{Tree, Set}
 use Rattle.filterset_language.proofs.AddingParens.{one_way}
-use Rattle.filterset_rewriting.specs.Simplifying.Answers.{PickAlike, KeepsDecided}
-use Rattle.filterset_rewriting.specs.Simplifying.Pruned.{IsLeftOf}
+use Rattle.filterset_rewriting.specs.Simplifying.{Answers.PickAlike, Answers.KeepsDecided, Pruned.IsLeftOf}
 use Rattle.filterset_rewriting.specs.Simplifying.Reducing.{Rest, Constant, Reduced, reduced, tree_of_rest}
 use Rattle.filterset_rewriting.specs.Simplifying.Simple.{IsConstant, IsReduced, IsSimple}
 use Rattle.filterset_rewriting.specs.Simplifying.Simplified.{IsSimplified}

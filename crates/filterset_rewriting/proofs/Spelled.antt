@@ -2,11 +2,9 @@
 use Rattle.std.proofs.Common.{◌≡◌, ◌↔◌, ◌∙◌, ◌⊎◌, ◌∷◌, ◌++◌, List, [], ⊎_elim, inl, inr, arith, refl, subst, sym}
 use Rattle.std.specs.Prelude.{All, IsTrue}
 use Rattle.std.proofs.lemmas.List.Elements.{All-append, All-cons, All-head, All-nil, All-tail}
-use Rattle.filterset_expression.proofs.AddedParens.{same_formula}
-use Rattle.filterset_expression.proofs.Connectives.{connects_alike}
+use Rattle.filterset_expression.proofs.{AddedParens.same_formula, Connectives.connects_alike}
 use Rattle.filterset_expression.specs.declared.logic.Connective.TheVariants.{Conjunction, Disjunction}
-use Rattle.filterset_expression.specs.Formula.{Formula, TrueWhere}
-use Rattle.filterset_expression.specs.Meaning.{tree_formula}
+use Rattle.filterset_expression.specs.{Formula.Formula, Formula.TrueWhere, Meaning.tree_formula}
 use Rattle.filterset_grammar.specs.AddedParens.{HasWellFormedLeaves, IsEnclosedUnless, IsWithParens, enclosed, join, leaf, negation, parens, stands, union}
 use Rattle.filterset_grammar.specs.Printing.{IsWellFormedLeaf}
 use Rattle.filterset_grammar.specs.Tree.{Leaf, Tree, Not, Union, Join, Parens, Set, tree_leaves}

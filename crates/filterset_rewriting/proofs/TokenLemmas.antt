@@ -1,17 +1,14 @@
 -- Steps over texts, by which tokens are added to others.
 use Rattle.std.proofs.Common.{◌≡◌, ℕ, ◌+◌, ◌<◌, ◌≤◌, ◌∙◌, ap, Bool, true, false, cond, List, [], ◌∷◌, ◌++◌, add_assoc, add-zero, append_assoc, arith, drop, get_or, length, map, refl, subst, sym, take}
 use Rattle.std.proofs.lemmas.Bool.Decides.{nat_tests}
-use Rattle.std.proofs.lemmas.List.{append-nil, drop-drop, drop-map, drop_all, drop_more}
-use Rattle.std.proofs.lemmas.List.Folds.{length-prefix_len}
+use Rattle.std.proofs.lemmas.List.{append-nil, drop-drop, drop-map, drop_all, drop_more, Folds.length-prefix_len}
 use Rattle.std.specs.Prelude.{MatchOption, None, Option, Some, filter}
 use Rattle.std.specs.List.{prefix_len, take_while}
 use Rattle.filterset_faults.specs.declared.span.SourceSpan.{SourceSpan}
-use Rattle.filterset_grammar.specs.Text.{is_word_byte}
-use Rattle.filterset_grammar.specs.Tree.{Leaf}
+use Rattle.filterset_grammar.specs.{Text.is_word_byte, Tree.Leaf}
 use Rattle.filterset_rewriting.specs.Tokens.{Advances, AdvancesTo, AreTokensFrom, PlainTokens, argument_of, argument_tokens, gap_len, is_sign, nothing, other, own_len, sign, token, word, word_kind}
+use Rattle.filterset_rewriting.specs.declared.tokens.{arguments.Argument.Argument, Token.Token}
 use Rattle.filterset_graph.specs.Packages.{Text}
-use Rattle.filterset_rewriting.specs.declared.tokens.arguments.Argument.{Argument}
-use Rattle.filterset_rewriting.specs.declared.tokens.Token.{Token}
 use Rattle.filterset_rewriting.specs.declared.tokens.TokenKind.TheVariants as kinds
 
 -- ---- texts without arguments

@@ -3,11 +3,9 @@ use Rattle.std.specs.Prelude.{◌≡◌, ◌∷◌, ◌-◌, ◌<◌, ℕ, Bool,
 use Rattle.std.specs.Str.{trim_start}
 use Rattle.filterset_faults.specs.declared.span.SourceSpan.{SourceSpan}
 use Rattle.filterset_glob.specs.Signs.{sign}
-use Rattle.filterset_grammar.specs.AddedParens.{IsWithParens}
-use Rattle.filterset_grammar.specs.Tree.{Tree}
+use Rattle.filterset_grammar.specs.{AddedParens.IsWithParens, Tree.Tree}
 use Rattle.filterset_rewriting.specs.Fronts.{IsExpression, NoExpression}
-use Rattle.filterset_rewriting.specs.Links.{IsOperator, NoOperator, linked}
-use Rattle.filterset_rewriting.specs.declared.links.Link.{Link}
+use Rattle.filterset_rewriting.specs.{Links.IsOperator, Links.NoOperator, Links.linked, declared.links.Link.Link}
 
 -- the text goes on with this sign behind white space, and then with the other text
 abbrev pub Begins : ℕ → List ℕ → List ℕ → Type 0

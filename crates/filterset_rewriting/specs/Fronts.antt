@@ -1,12 +1,10 @@
 -- Expressions at the front of texts.
 use Rattle.std.specs.Prelude.{◌≡◌, ◌⊎◌, ◌++◌, ◌∷◌, ℕ, List, []}
 use Rattle.std.specs.Str.{IsCharBoundary}
-use Rattle.filterset_faults.specs.Span.{offset_of}
-use Rattle.filterset_faults.specs.declared.error.ParseSingleError.{ParseSingleError}
+use Rattle.filterset_faults.specs.{Span.offset_of, declared.error.ParseSingleError.ParseSingleError}
 use Rattle.filterset_faults.specs.declared.error.ParseSingleError.TheVariants.{ExpectedEndOfExpression}
 use Rattle.filterset_faults.specs.declared.span.SourceSpan.{SourceSpan}
-use Rattle.filterset_grammar.specs.Grammar.{Spells}
-use Rattle.filterset_grammar.specs.Tree.{Tree}
+use Rattle.filterset_grammar.specs.{Grammar.Spells, Tree.Tree}
 use Rattle.filterset_language.specs.Parsed.{IsUnreadWith, Reads}
 use Rattle.filterset_rewriting.specs.Nesting.Depth.{IsTooDeep, most_levels}
 

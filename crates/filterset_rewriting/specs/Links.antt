@@ -1,12 +1,10 @@
 -- Operators that are written in front of their operands.
-use Rattle.std.specs.Prelude.{◌≡◌, ◌≢◌, ◌++◌, ℕ, List, codes}
-use Rattle.std.specs.Str.{trim_start}
+use Rattle.std.specs.{Prelude.◌≡◌, Prelude.◌≢◌, Prelude.◌++◌, Prelude.ℕ, Prelude.List, Prelude.codes, Str.trim_start}
 use Rattle.filterset_grammar.specs.Tree.{Tree, Join, Union}
 use Rattle.filterset_grammar.specs.declared.operators.AndOperator.TheVariants.{LiteralAnd, Ampersand}
 use Rattle.filterset_grammar.specs.declared.operators.Joiner.TheVariants.{Both}
 use Rattle.filterset_grammar.specs.declared.operators.OrOperator.TheVariants.{LiteralOr, Pipe}
-use Rattle.filterset_rewriting.specs.declared.links.Link.{Link}
-use Rattle.filterset_rewriting.specs.declared.links.Link.TheVariants.{Every, Any}
+use Rattle.filterset_rewriting.specs.declared.links.Link.{Link, TheVariants.Every, TheVariants.Any}
 
 -- the operator that is meant by this word or sign, of this language or another
 pub data Says : List ℕ → Link → Type 0 where

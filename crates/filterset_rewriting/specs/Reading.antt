@@ -4,8 +4,7 @@ use Rattle.filterset_faults.specs.declared.span.SourceSpan.{SourceSpan}
 use Rattle.filterset_grammar.specs.Tree.{Tree}
 use Rattle.filterset_language.specs.Parsed.{IsUnreadWith, Reads}
 use Rattle.filterset_rewriting.specs.Nesting.Depth.{IsTooDeep, depth, most_levels}
-use Rattle.filterset_rewriting.specs.declared.reading.TextRefusal.{TextRefusal}
-use Rattle.filterset_rewriting.specs.declared.reading.TextRefusal.TheVariants.{Found, TooDeep}
+use Rattle.filterset_rewriting.specs.declared.reading.TextRefusal.{TextRefusal, TheVariants.Found, TheVariants.TooDeep}
 
 -- the text reads as the tree, within the levels that a text may have
 pub record IsRead (text : List ℕ) (e : Tree SourceSpan) : Type 0 where

@@ -1,10 +1,8 @@
 -- Trees without `^`, an operator that cargo-nextest does not read.
 use Rattle.std.specs.Prelude.{◌+◌, ◌↔◌, ℕ, Bool, IsTrue}
-use Rattle.filterset_expression.specs.Formula.{TrueWhere}
-use Rattle.filterset_expression.specs.Meaning.{tree_formula}
+use Rattle.filterset_expression.specs.{Formula.TrueWhere, Meaning.tree_formula}
 use Rattle.filterset_grammar.specs.Tree.{Leaf, Tree, Not, Union, Join, Parens, Set}
-use Rattle.filterset_grammar.specs.declared.operators.DifferenceOperator.TheVariants.{Minus}
-use Rattle.filterset_grammar.specs.declared.operators.Joiner.{Joiner}
+use Rattle.filterset_grammar.specs.declared.operators.{DifferenceOperator.TheVariants.Minus, Joiner.Joiner}
 use Rattle.filterset_grammar.specs.declared.operators.Joiner.TheVariants.{Without, ExactlyOne}
 use Rattle.filterset_grammar.specs.declared.operators.OrOperator.TheVariants.{LiteralOr}
 

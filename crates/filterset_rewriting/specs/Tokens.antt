@@ -1,20 +1,16 @@
 -- The tokens of filtersets: their words, operators and arguments.
 use Rattle.std.specs.Prelude.{◌≡◌, ◌⊎◌, ◌==◌, ◌+◌, ◌-◌, ◌++◌, ◌<◌, ◌&&◌, ◌||◌, ℕ, Bool, List, [], ◌∷◌, MatchBool, MatchOption, None, Option, Some, codes, drop, false, length, map, min, slice_index, take, true, if◌then◌else◌}
-use Rattle.std.specs.List.{filter, list_any, take_while}
-use Rattle.std.specs.Str.{bytes_eq}
-use Rattle.filterset_faults.specs.Span.{length_of, offset_of, span}
-use Rattle.filterset_faults.specs.declared.span.SourceSpan.{SourceSpan}
+use Rattle.std.specs.{List.filter, List.list_any, List.take_while, Str.bytes_eq}
+use Rattle.filterset_faults.specs.{Span.length_of, Span.offset_of, Span.span, declared.span.SourceSpan.SourceSpan}
 use Rattle.filterset_glob.specs.Signs.{◌∈◌}
 use Rattle.filterset_graph.specs.Packages.{Text}
 use Rattle.filterset_grammar.specs.Text.{is_word_byte}
 use Rattle.filterset_grammar.specs.Tree.{Leaf, Matching, Platform, Tree, tree_leaves}
 use Rattle.filterset_matchers.specs.Matcher.{Matcher, Equal, Contains, Glob, Regex}
 use Rattle.filterset_rewriting.specs.Reading.{IsRead, IsUnread}
-use Rattle.filterset_rewriting.specs.declared.tokens.arguments.Argument.{Argument}
-use Rattle.filterset_rewriting.specs.declared.tokens.arguments.ArgumentForm.{ArgumentForm}
+use Rattle.filterset_rewriting.specs.declared.tokens.arguments.{Argument.Argument, ArgumentForm.ArgumentForm}
+use Rattle.filterset_rewriting.specs.declared.tokens.{Token.Token, TokenKind.TokenKind}
 use Rattle.filterset_rewriting.specs.declared.tokens.arguments.ArgumentForm.TheVariants as forms
-use Rattle.filterset_rewriting.specs.declared.tokens.Token.{Token}
-use Rattle.filterset_rewriting.specs.declared.tokens.TokenKind.{TokenKind}
 use Rattle.filterset_rewriting.specs.declared.tokens.TokenKind.TheVariants as kinds
 
 abbrev pub token : ℕ → ℕ → TokenKind → Token

@@ -1,9 +1,7 @@
 //! Operators that are written in front of their operands, as in `and(a, b)`.
 ghost use Rattle.std.specs.Prelude.{◌≤◌, IfOk, IfSome, MatchOption, length};
 ghost use Rattle.filterset_faults.specs.declared.span.SourceSpan.{SourceSpan};
-ghost use Rattle.filterset_grammar.specs.Grammar.{Spells};
-ghost use Rattle.filterset_grammar.specs.Printing.{printed};
-ghost use Rattle.filterset_grammar.specs.Tree.{SameTree, Tree};
+ghost use Rattle.filterset_grammar.specs.{Grammar.Spells, Printing.printed, Tree.SameTree, Tree.Tree};
 ghost use Rattle.filterset_language.specs.Views.{tree_of};
 ghost use Rattle.filterset_rewriting.specs.Calls.{IsCall, NoCall};
 

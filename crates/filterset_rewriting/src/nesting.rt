@@ -7,10 +7,8 @@
 //! argument are counted apart (`groups`).
 ghost use Rattle.std.specs.Prelude.{◌<◌, ◌≤◌, Bool, IfNone, IfOk, IfSome, List, MatchOption, length, ℕ};
 ghost use Rattle.filterset_faults.specs.declared.span.SourceSpan.{SourceSpan};
-ghost use Rattle.filterset_grammar.specs.Grammar.{Spells};
-ghost use Rattle.filterset_grammar.specs.Tree.{Tree};
-ghost use Rattle.filterset_rewriting.specs.Nesting.Depth.{IsTooDeep, depth};
-ghost use Rattle.filterset_rewriting.specs.Nesting.Levels.{After, Passes};
+ghost use Rattle.filterset_grammar.specs.{Grammar.Spells, Tree.Tree};
+ghost use Rattle.filterset_rewriting.specs.Nesting.{Depth.IsTooDeep, Depth.depth, Levels.After, Levels.Passes};
 
 use std::alloc::{AllocError, Global};
 

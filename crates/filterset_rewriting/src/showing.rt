@@ -2,8 +2,7 @@
 ghost use Rattle.std.specs.Prelude.{◌≡◌, IfOk};
 ghost use Rattle.filterset_expression.specs.Meaning.{tree_formula};
 ghost use Rattle.filterset_faults.specs.declared.span.SourceSpan.{SourceSpan};
-ghost use Rattle.filterset_grammar.specs.Grammar.{Spells};
-ghost use Rattle.filterset_grammar.specs.Printing.{WellFormed, printed};
+ghost use Rattle.filterset_grammar.specs.{Grammar.Spells, Printing.WellFormed, Printing.printed};
 ghost use Rattle.filterset_grammar.specs.Tree.{SameTree, Tree};
 ghost use Rattle.filterset_language.specs.Views.{tree_of};
 ghost use Rattle.filterset_rewriting.specs.Showing as spec;

@@ -2,9 +2,7 @@
 //! the groups are.
 ghost use Rattle.std.specs.Prelude.{◌≡◌, IfOk};
 ghost use Rattle.filterset_faults.specs.declared.span.SourceSpan.{SourceSpan};
-ghost use Rattle.filterset_grammar.specs.AddedParens.{HasWellFormedLeaves};
-ghost use Rattle.filterset_grammar.specs.Grammar.{Spells};
-ghost use Rattle.filterset_grammar.specs.Printing.{printed};
+ghost use Rattle.filterset_grammar.specs.{AddedParens.HasWellFormedLeaves, Grammar.Spells, Printing.printed};
 ghost use Rattle.filterset_grammar.specs.Tree.{SameTree, Tree};
 ghost use Rattle.filterset_language.specs.Views.{tree_of};
 ghost use Rattle.filterset_rewriting.specs.Simplifying.Reducing.{reduced, tree_of_rest};

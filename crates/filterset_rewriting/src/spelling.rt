@@ -1,10 +1,8 @@
 //! Trees without `^`, an operator that cargo-nextest does not read.
 ghost use Rattle.std.specs.Prelude.{◌≡◌, ◌-◌, ◌^◌, IfOk, min};
 ghost use Rattle.filterset_faults.specs.declared.span.SourceSpan.{SourceSpan};
-ghost use Rattle.filterset_grammar.specs.AddedParens.{HasWellFormedLeaves, IsWithParens};
-ghost use Rattle.filterset_grammar.specs.Grammar.{Spells};
-ghost use Rattle.filterset_grammar.specs.Printing.{printed};
-ghost use Rattle.filterset_grammar.specs.Tree.{Join, Parens, SameTree, Tree};
+ghost use Rattle.filterset_grammar.specs.{AddedParens.HasWellFormedLeaves, AddedParens.IsWithParens, Grammar.Spells};
+ghost use Rattle.filterset_grammar.specs.{Printing.printed, Tree.Join, Tree.Parens, Tree.SameTree, Tree.Tree};
 ghost use Rattle.filterset_grammar.specs.declared.operators.DifferenceOperator.TheVariants.{Minus};
 ghost use Rattle.filterset_grammar.specs.declared.operators.Joiner.TheVariants.{Without};
 ghost use Rattle.filterset_language.specs.Views.{tree_of};

@@ -5,8 +5,7 @@ use Rattle.serde_json.specs.Data.{Data}
 use Rattle.filterset_editor.specs.declared.positions.Position.{Position}
 use Rattle.filterset_documents.specs.Joins.{Joins}
 use Rattle.filterset_documents.proofs.JoinLemmas.{Joins-items}
-use Rattle.filterset_server.specs.Highlights.{mark_data, marks_data}
-use Rattle.filterset_server.specs.declared.highlighting.Mark.{Mark}
+use Rattle.filterset_server.specs.{Highlights.mark_data, Highlights.marks_data, declared.highlighting.Mark.Mark}
 
 -- the part of the next element of a list
 pub joins_next : {A D : Type 0} (P : A → List D → Type 0) (xs : List A) (i : ℕ) (d : A) (ys added : List D)

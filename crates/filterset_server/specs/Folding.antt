@@ -3,12 +3,8 @@ use Rattle.std.specs.Prelude.{◌≡◌, List, [], ◌∷◌, codes, nat_lt, if�
 use Rattle.serde_json.specs.Data.{Data, array, number, unsigned, object, member, no_members}
 use Rattle.serde_json.specs.View.{items_of}
 use Rattle.filterset_entries.specs.Checked.{TextRow}
-use Rattle.filterset_editor.specs.Positions.{Text}
-use Rattle.filterset_editor.specs.declared.positions.Encoding.{Encoding}
-use Rattle.filterset_editor.specs.declared.positions.Range.{Range}
-use Rattle.filterset_documents.specs.Filtersets.{place_span}
-use Rattle.filterset_documents.specs.Joins.{Joins}
-use Rattle.filterset_documents.specs.Ranges.{IsRangeOf}
+use Rattle.filterset_editor.specs.{Positions.Text, declared.positions.Encoding.Encoding, declared.positions.Range.Range}
+use Rattle.filterset_documents.specs.{Filtersets.place_span, Joins.Joins, Ranges.IsRangeOf}
 
 -- from the line where the range begins to that where it ends
 abbrev pub fold_data : Range → Data

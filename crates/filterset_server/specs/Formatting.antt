@@ -3,11 +3,9 @@ use Rattle.std.specs.Prelude.{◌≡◌, ◌⊎◌, Bool, List, MatchBool, Match
 use Rattle.std.specs.List.{AllZip}
 use Rattle.serde_json.specs.Data.{Data, null}
 use Rattle.filterset_entries.specs.Checked.{TextRow}
-use Rattle.filterset_editor.specs.Positions.{Text}
-use Rattle.filterset_editor.specs.declared.positions.Encoding.{Encoding}
+use Rattle.filterset_editor.specs.{Positions.Text, declared.positions.Encoding.Encoding}
 use Rattle.filterset_grammar.specs.Printing.{printed}
-use Rattle.filterset_documents.specs.Filtersets.{OfTree}
-use Rattle.filterset_documents.specs.Contents.{Becomes, ContentRow}
+use Rattle.filterset_documents.specs.{Filtersets.OfTree, Contents.Becomes, Contents.ContentRow}
 use Rattle.filterset_documents.specs.Edits.{AreEdits, AreEditsOf, AreRewrites, EditRow, edited}
 
 -- the text that a filterset gets: if it is found in the document, its own as it prints

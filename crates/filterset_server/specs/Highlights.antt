@@ -3,21 +3,15 @@ use Rattle.std.specs.Prelude.{◌≡◌, ◌-◌, ◌++◌, ◌==◌, ◌&&◌, 
 use Rattle.std.specs.List.Sorted.{IsNonDecreasingBy, IsPermutation}
 use Rattle.serde_json.specs.Data.{Data, array, number, unsigned, object, member, no_members}
 use Rattle.serde_json.specs.View.{items_of}
-use Rattle.filterset_entries.specs.Checked.{TextRow}
-use Rattle.filterset_entries.specs.Placements.{Placement, file_part}
+use Rattle.filterset_entries.specs.{Checked.TextRow, Placements.Placement, Placements.file_part}
 use Rattle.filterset_editor.specs.Positions.{Text}
-use Rattle.filterset_editor.specs.declared.positions.Encoding.{Encoding}
-use Rattle.filterset_editor.specs.declared.positions.Position.{Position}
-use Rattle.filterset_editor.specs.declared.positions.Range.{Range}
+use Rattle.filterset_editor.specs.declared.positions.{Encoding.Encoding, Position.Position, Range.Range}
 use Rattle.filterset_faults.specs.Span.{offset_of}
-use Rattle.filterset_documents.specs.Filtersets.{OfTree}
-use Rattle.filterset_documents.specs.Joins.{Joins}
-use Rattle.filterset_documents.specs.Ranges.{IsRangeOf}
+use Rattle.filterset_documents.specs.{Filtersets.OfTree, Joins.Joins, Ranges.IsRangeOf}
 use Rattle.filterset_rewriting.specs.Tokens.{AreTokens}
-use Rattle.filterset_server.specs.declared.highlighting.Mark.{Mark}
-use Rattle.filterset_rewriting.specs.declared.tokens.Token.{Token}
-use Rattle.filterset_rewriting.specs.declared.tokens.TokenKind.{TokenKind}
+use Rattle.filterset_rewriting.specs.declared.tokens.{Token.Token, TokenKind.TokenKind}
 use Rattle.filterset_rewriting.specs.declared.tokens.TokenKind.TheVariants.{EnumMember, Function, Keyword, Operator, Regexp, String}
+use Rattle.filterset_server.specs.declared.highlighting.Mark.{Mark}
 
 -- the tokens of a filterset's text, if it reads as a tree
 abbrev pub TextTokens : Text → List Token → Type 0

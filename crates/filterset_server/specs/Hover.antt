@@ -2,20 +2,16 @@
 use Rattle.std.specs.Prelude.{◌≡◌, ◌++◌, ℕ, Bool, List, MatchOption, Option, codes, find, false}
 use Rattle.std.specs.Option.{option_map_or}
 use Rattle.serde_json.specs.Data.{Data, string, object, member, no_members, null}
-use Rattle.filterset_entries.specs.Checked.{TextRow}
-use Rattle.filterset_entries.specs.Placements.{Placement, file_part}
+use Rattle.filterset_entries.specs.{Checked.TextRow, Placements.Placement, Placements.file_part}
 use Rattle.filterset_drawing.specs.declared.source.FileSpan.{FileSpan}
 use Rattle.filterset_editor.specs.Positions.{IsOffset, Text}
-use Rattle.filterset_editor.specs.declared.positions.Encoding.{Encoding}
-use Rattle.filterset_editor.specs.declared.positions.Position.{Position}
+use Rattle.filterset_editor.specs.declared.positions.{Encoding.Encoding, Position.Position}
 use Rattle.filterset_faults.specs.declared.span.SourceSpan.{SourceSpan}
 use Rattle.filterset_grammar.specs.Tree.{Leaf, Tree, tree_leaves}
 use Rattle.filterset_language.specs.Faults.{leaf_span}
-use Rattle.filterset_documents.specs.Filtersets.{OfTree, is_in, is_row_at}
-use Rattle.filterset_documents.specs.Ranges.{IsRange}
+use Rattle.filterset_documents.specs.{Filtersets.OfTree, Filtersets.is_in, Filtersets.is_row_at, Ranges.IsRange}
 use Rattle.filterset_names.specs.Workspaces.{WorkspaceRow}
-use Rattle.filterset_server.specs.Matches.{SaysMatched}
-use Rattle.filterset_server.specs.Words.{leaf_text}
+use Rattle.filterset_server.specs.{Matches.SaysMatched, Words.leaf_text}
 
 -- ---- predicates
 

@@ -3,9 +3,7 @@ use Rattle.std.specs.Prelude.{◌≡◌, ◌-◌, ◌++◌, ℕ, zero, suc, List
 use Rattle.std.specs.List.{flat_map}
 use Rattle.filterset_editor.specs.Positions.{Text}
 use Rattle.filterset_grammar.specs.Tree.{Leaf}
-use Rattle.filterset_names.specs.Matched.{MatchesLeaf}
-use Rattle.filterset_names.specs.Workspaces.{WorkspaceRow}
-use Rattle.filterset_names.specs.declared.matched.Matched.{Matched}
+use Rattle.filterset_names.specs.{Matched.MatchesLeaf, Workspaces.WorkspaceRow, declared.matched.Matched.Matched}
 use Rattle.filterset_names.specs.declared.matched.Matched.TheVariants.{Binaries, Packages, Tests}
 use Rattle.filterset_names.specs.declared.matched.Shortlist.{Shortlist}
 use Rattle.filterset_server.specs.Words.{code_span}

@@ -1,23 +1,16 @@
 -- What the server answers about documents.
 use Rattle.std.specs.Prelude.{◌≡◌, ◌⊎◌, Option}
 use Rattle.serde_json.specs.Data.{Data, null}
-use Rattle.filterset_editor.specs.Documents.{DocumentRow}
-use Rattle.filterset_editor.specs.Machine.{Says}
-use Rattle.filterset_editor.specs.Positions.{Text}
+use Rattle.filterset_editor.specs.{Documents.DocumentRow, Machine.Says, Positions.Text}
 use Rattle.filterset_editor.specs.declared.inquiry.Inquiry.{Inquiry}
 use Rattle.filterset_editor.specs.declared.inquiry.Inquiry.TheVariants.{CodeActions, Completion, FoldingRanges, Formatting, Hover, SemanticTokens, Symbols}
 use Rattle.filterset_editor.specs.declared.positions.Encoding.{Encoding}
 use Rattle.filterset_actions.specs.Actions.{ActsOn}
-use Rattle.filterset_documents.specs.Contents.{ContentRow, Holds, HoldsNothing}
-use Rattle.filterset_documents.specs.Filtersets.{is_list}
+use Rattle.filterset_documents.specs.{Contents.ContentRow, Contents.Holds, Contents.HoldsNothing, Filtersets.is_list}
 use Rattle.filterset_names.specs.Workspaces.{WorkspaceRow}
 use Rattle.filterset_offers.specs.Completion.{CompletesRows}
-use Rattle.filterset_server.specs.Folding.{AreFolds}
-use Rattle.filterset_server.specs.Formatting.{FormatsContent}
-use Rattle.filterset_server.specs.Hover.{HoversRows}
-use Rattle.filterset_server.specs.Symbols.{AreSymbols}
-use Rattle.filterset_server.specs.Highlights.{HighlightsRows}
-use Rattle.filterset_server.specs.Unmatched.{DiagnosesIn}
+use Rattle.filterset_server.specs.{Folding.AreFolds, Formatting.FormatsContent, Hover.HoversRows, Symbols.AreSymbols}
+use Rattle.filterset_server.specs.{Highlights.HighlightsRows, Unmatched.DiagnosesIn}
 
 -- the result of a request about a document, which has this address and content, where a workspace may be known
 abbrev pub RespondsContent : Option WorkspaceRow → Encoding → Text → Text → Inquiry → ContentRow → Data → Type 0

@@ -1,14 +1,10 @@
 -- The symbols of a document.
-use Rattle.std.specs.Prelude.{◌≡◌, List, codes}
-use Rattle.std.specs.List.{AllZip}
+use Rattle.std.specs.{Prelude.◌≡◌, Prelude.List, Prelude.codes, List.AllZip}
 use Rattle.serde_json.specs.Data.{Data, array, number, unsigned, string, object, member, no_members}
 use Rattle.serde_json.specs.View.{items_of}
 use Rattle.filterset_entries.specs.Checked.{TextRow}
-use Rattle.filterset_editor.specs.Positions.{Text}
-use Rattle.filterset_editor.specs.declared.positions.Encoding.{Encoding}
-use Rattle.filterset_editor.specs.declared.positions.Range.{Range}
-use Rattle.filterset_documents.specs.Filtersets.{place_span}
-use Rattle.filterset_documents.specs.Ranges.{IsRangeOf, range_data}
+use Rattle.filterset_editor.specs.{Positions.Text, declared.positions.Encoding.Encoding, declared.positions.Range.Range}
+use Rattle.filterset_documents.specs.{Filtersets.place_span, Ranges.IsRangeOf, Ranges.range_data}
 
 -- a string (15) with this name, in a range
 abbrev pub symbol_data : Text → Data → Data

@@ -2,26 +2,19 @@
 use Rattle.std.specs.Prelude.{◌≡◌, ◌↔◌, ◌⊎◌, ◌++◌, ℕ, Bool, true, false, IsTrue, List, [], ◌∷◌, MatchBool, MatchOption, Option, codes, filter, is_some}
 use Rattle.std.specs.List.{count_by}
 use Rattle.serde_json.specs.Data.{Data}
-use Rattle.filterset_entries.specs.Checked.{TextRow}
-use Rattle.filterset_entries.specs.Placements.{Placement}
+use Rattle.filterset_entries.specs.{Checked.TextRow, Placements.Placement}
 use Rattle.filterset_documents.specs.Contents.{ContentRow, Holds}
 use Rattle.filterset_documents.specs.Diagnostics.{DiagnosesContent, IsDiagnostic, IsRefusalAt}
-use Rattle.filterset_documents.specs.Filtersets.{OfTree, is_list}
-use Rattle.filterset_documents.specs.Joins.{Joins}
+use Rattle.filterset_documents.specs.{Filtersets.OfTree, Filtersets.is_list, Joins.Joins}
 use Rattle.filterset_drawing.specs.declared.remark.Severity.TheVariants.{Warning}
-use Rattle.filterset_editor.specs.Documents.{DocumentRow}
-use Rattle.filterset_editor.specs.Positions.{Text}
-use Rattle.filterset_editor.specs.declared.positions.Encoding.{Encoding}
+use Rattle.filterset_editor.specs.{Documents.DocumentRow, Positions.Text, declared.positions.Encoding.Encoding}
 use Rattle.filterset_faults.specs.declared.span.SourceSpan.{SourceSpan}
 use Rattle.filterset_grammar.specs.Tree.{Leaf, Matching, tree_leaves}
 use Rattle.filterset_grammar.specs.declared.predicate.Predicate.TheVariants.{Test}
 use Rattle.filterset_listing.specs.Unmatched.{Unmatched, unmatched_message}
-use Rattle.filterset_names.specs.Something.{MatchesSomething}
-use Rattle.filterset_names.specs.Workspaces.{WorkspaceRow}
-use Rattle.filterset_sources.specs.Configurations.{RefusesConfiguration}
-use Rattle.filterset_sources.specs.declared.list.Suite.{Suite}
-use Rattle.filterset_sources.specs.declared.list.SuiteStatus.{SuiteStatus}
-use Rattle.filterset_sources.specs.declared.list.SuiteStatus.TheVariants.{Listed, Skipped}
+use Rattle.filterset_names.specs.{Something.MatchesSomething, Workspaces.WorkspaceRow}
+use Rattle.filterset_sources.specs.{Configurations.RefusesConfiguration, declared.list.Suite.Suite}
+use Rattle.filterset_sources.specs.declared.list.SuiteStatus.{SuiteStatus, TheVariants.Listed, TheVariants.Skipped}
 use Rattle.filterset_sources.specs.declared.refusal.SourceRefusal.{SourceRefusal}
 use Rattle.filterset_server.specs.Hover.{leaf_part}
 

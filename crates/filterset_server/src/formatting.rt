@@ -1,6 +1,5 @@
 //! How filtersets are formatted.
-ghost use Rattle.std.specs.Prelude.{◌≡◌, IfOk, length, map, string_bytes};
-ghost use Rattle.std.specs.List.{AllZip};
+ghost use Rattle.std.specs.{Prelude.◌≡◌, Prelude.IfOk, Prelude.length, Prelude.map, Prelude.string_bytes, List.AllZip};
 ghost use Rattle.serde_json.specs.View.{view};
 ghost use Rattle.filterset_entries.specs.Checked.{text_row};
 ghost use Rattle.filterset_documents.specs.Contents.{content_row};

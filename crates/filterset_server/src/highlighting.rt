@@ -1,10 +1,8 @@
 //! The tokens of documents, as the protocol has them.
 ghost use Rattle.std.specs.Prelude.{◌≡◌, ◌++◌, IfOk, List, OnOk, codes, map, option_map};
 ghost use Rattle.std.specs.List.Sorted.{IsNonDecreasingBy, IsPermutation};
-ghost use Rattle.serde_json.specs.Data.{array, member, no_members, object};
-ghost use Rattle.serde_json.specs.View.{items_of, view};
-ghost use Rattle.filterset_entries.specs.Checked.{text_row};
-ghost use Rattle.filterset_entries.specs.Placements.{placement_of};
+ghost use Rattle.serde_json.specs.{Data.array, Data.member, Data.no_members, Data.object, View.items_of, View.view};
+ghost use Rattle.filterset_entries.specs.{Checked.text_row, Placements.placement_of};
 ghost use Rattle.filterset_documents.specs.Joins.{Joins};
 ghost use Rattle.filterset_server.specs.Highlights as spec;
 ghost use Rattle.filterset_server.specs.Highlights.{HighlightsRows, RowMarks, TextTokens, TokenMarks, mark_data, marks_data, marks_of, natural};

@@ -1,12 +1,10 @@
 //! What the predicate at a position means.
 ghost use Rattle.std.specs.Prelude.{◌≡◌, IfOk, map, option_map};
 ghost use Rattle.serde_json.specs.View.{view};
-ghost use Rattle.filterset_entries.specs.Checked.{text_row};
-ghost use Rattle.filterset_entries.specs.Placements.{placement_of};
+ghost use Rattle.filterset_entries.specs.{Checked.text_row, Placements.placement_of};
 ghost use Rattle.filterset_language.specs.Views.{leaf_of, tree_of};
 ghost use Rattle.filterset_names.specs.Workspaces.{known_of};
-ghost use Rattle.filterset_server.specs.Hover.{HoversLeaf, HoversRow, HoversRows, HoversTree};
-ghost use Rattle.filterset_server.specs.Hover.{hover_data, is_leaf_at, leaf_part};
+ghost use Rattle.filterset_server.specs.Hover.{HoversLeaf, HoversRow, HoversRows, HoversTree, hover_data, is_leaf_at, leaf_part};
 
 use crate::matches::leaf_matches;
 use crate::words::leaf_text;

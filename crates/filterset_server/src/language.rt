@@ -2,11 +2,9 @@
 ghost use Rattle.std.specs.Prelude.{◌≡◌, IfOk, map, string_bytes};
 ghost use Rattle.serde_json.specs.View.{view};
 ghost use Rattle.filterset_entries.specs.Checked.{text_row};
-ghost use Rattle.filterset_documents.specs.Contents.{content_row, names_in};
-ghost use Rattle.filterset_documents.specs.Filtersets.{is_list};
+ghost use Rattle.filterset_documents.specs.{Contents.content_row, Contents.names_in, Filtersets.is_list};
 ghost use Rattle.filterset_names.specs.Workspaces.{known_of};
-ghost use Rattle.filterset_server.specs.Responses.{RespondsContent};
-ghost use Rattle.filterset_server.specs.Unmatched.{DiagnosesContentIn};
+ghost use Rattle.filterset_server.specs.{Responses.RespondsContent, Unmatched.DiagnosesContentIn};
 
 use crate::folding::folds_value;
 use crate::formatting::format_content;

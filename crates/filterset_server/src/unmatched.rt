@@ -1,9 +1,7 @@
 //! Warnings of predicates that match nothing in a workspace.
-ghost use Rattle.std.specs.Prelude.{◌≡◌, IfOk, map, option_map};
-ghost use Rattle.std.specs.List.{count_by};
+ghost use Rattle.std.specs.{Prelude.◌≡◌, Prelude.IfOk, Prelude.map, Prelude.option_map, List.count_by};
 ghost use Rattle.serde_json.specs.View.{view};
-ghost use Rattle.filterset_entries.specs.Checked.{text_row};
-ghost use Rattle.filterset_entries.specs.Placements.{placement_of};
+ghost use Rattle.filterset_entries.specs.{Checked.text_row, Placements.placement_of};
 ghost use Rattle.filterset_documents.specs.Joins.{Joins};
 ghost use Rattle.filterset_language.specs.Views.{leaf_of};
 ghost use Rattle.filterset_names.specs.Workspaces.{known_of, workspace_row};

@@ -2,8 +2,7 @@
 ghost use Rattle.std.specs.Prelude.{◌≡◌, ◌++◌, ◌==◌, IfOk, slice_index, string_bytes};
 ghost use Rattle.filterset_language.specs.Views.{leaf_of};
 ghost use Rattle.filterset_matchers.specs.Matchers.{matcher_of};
-ghost use Rattle.filterset_server.specs.Words.{backticks, code_span, leaf_text, leaf_words, margin, matcher_words};
-ghost use Rattle.filterset_server.specs.Words.{matching_words, words_before, words_behind};
+ghost use Rattle.filterset_server.specs.Words.{backticks, code_span, leaf_text, leaf_words, margin, matcher_words, matching_words, words_before, words_behind};
 
 use filterset_language::{ParsedLeaf, Predicate};
 use filterset_matchers::NameMatcher;

@@ -1,9 +1,7 @@
 -- Positions of ids, and packages that are linked.
 use Rattle.std.proofs.Common.{◌≡◌, ℕ, ◌+◌, ◌<◌, ◌≤◌, inl, inr, Bool, true, false, cond, List, [], ◌∷◌, ◌++◌, length, get_or, map, take, Option, Some, None, is_some, refl, sym, ◌∙◌, ap, subst, arith, append-nil}
 use Rattle.std.specs.Prelude.{All, Contains, MatchOption, codes, not, slice_get}
-use Rattle.std.specs.BTreeMap.{BTreeMap}
-use Rattle.std.specs.Cmp.Lexicographic.{slice_cmp}
-use Rattle.std.specs.Ordering.{is_eq, nat_cmp}
+use Rattle.std.specs.{BTreeMap.BTreeMap, Cmp.Lexicographic.slice_cmp, Ordering.is_eq, Ordering.nat_cmp}
 use Rattle.std.proofs.lemmas.List.{map-append, take-map, take_more, take_all, length-take-le}
 use Rattle.std.proofs.lemmas.List.Elements.{All-contains, All-map, All-more, All-push, All-weaker}
 use Rattle.std.proofs.lemmas.Option.{none-some, slice_get-get_or, slice_get_within, get_or_from_slice_get}
@@ -14,9 +12,8 @@ use Rattle.filterset_graph.proofs.Positions.{position_from_Contains, Contains-fr
 use Rattle.filterset_graph.proofs.Rows.{PositionsAre-IsFirstRepeat, PositionsAre-push}
 use Rattle.filterset_sources.specs.Metadata.{AreLinked, HasLinksOf, IsGraphOf, IsKnown, IsLinkedAs, IsPlaced, IsWhole, NamesOnly, Repeats, Unknown, UnknownIn, UnknownNode, itself, link_path, links_of, node_ids}
 use Rattle.filterset_sources.specs.Shape.{item_path}
+use Rattle.filterset_sources.specs.declared.metadata.parts.{Node.Node, Parts.Parts}
 use Rattle.filterset_json.specs.Places.{IsFirstNot, Place}
-use Rattle.filterset_sources.specs.declared.metadata.parts.Node.{Node}
-use Rattle.filterset_sources.specs.declared.metadata.parts.Parts.{Parts}
 
 some_of : (o : Option ℕ) → is_some o ≡ true → (k : ℕ) × (o ≡ Some k)
 some_of (Some k) e = (k, refl)

@@ -1,11 +1,8 @@
 -- What stands at the end of keys.
 use Rattle.std.proofs.Common.{◌≡◌, ◌-◌, ◌≤◌, List, [], ◌∷◌, length, map, take, drop, get_or, Bor, Some, arith, subst}
 use Rattle.std.proofs.lemmas.List.{take_all}
-use Rattle.serde_json.specs.Data.{Data}
-use Rattle.serde_json.specs.Find.{get}
-use Rattle.filterset_json.specs.Paths.{key_text}
-use Rattle.filterset_json.specs.Places.{After, Place}
-use Rattle.filterset_json.specs.Shape.{Text}
+use Rattle.serde_json.specs.{Data.Data, Find.get}
+use Rattle.filterset_json.specs.{Paths.key_text, Places.After, Places.Place, Shape.Text}
 use Rattle.filterset_sources.specs.Platforms.{WrongAt}
 
 -- what is wrong behind the first of the keys

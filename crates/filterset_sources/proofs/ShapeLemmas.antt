@@ -1,21 +1,14 @@
 -- Objects of entries, and refusals.
 use Rattle.std.proofs.Common.{◌≡◌, List, [], ◌∷◌, ◌++◌, map, refl, string_bytes, Result, Ok, Err, inl, inr, subst, sym}
-use Rattle.std.specs.Prelude.{IfErr, IsErrAnd}
-use Rattle.std.specs.List.{AllZip}
-use Rattle.serde_json.specs.Data.{Data, Members, no_members, member}
-use Rattle.serde_json.specs.View.{view, members_view}
+use Rattle.std.specs.{Prelude.IfErr, Prelude.IsErrAnd, List.AllZip, declared.alloc.AllocError.AllocError}
+use Rattle.serde_json.specs.{Data.Data, Data.Members, Data.no_members, Data.member, View.view, View.members_view}
 use Rattle.serde_json.proofs.Views.{Entry}
-use Rattle.filterset_json.specs.Paths.{joined, key_text}
-use Rattle.filterset_json.specs.Places.{After, Names, Place}
-use Rattle.filterset_json.specs.Shape.{Text}
-use Rattle.filterset_json.specs.declared.refusal.EntryRefusal.{EntryRefusal}
-use Rattle.filterset_json.specs.declared.refusal.WrongValue.{WrongValue as Wrongs}
-use Rattle.std.specs.declared.alloc.AllocError.{AllocError}
+use Rattle.filterset_json.specs.{Paths.joined, Paths.key_text, Places.After, Places.Names, Places.Place, Shape.Text}
+use Rattle.filterset_json.specs.declared.refusal.{EntryRefusal.EntryRefusal, WrongValue.WrongValue as Wrongs}
 use Rattle.filterset_json.specs.declared.refusal.EntryRefusal.TheVariants.{Wrong}
 use Rattle.filterset_json.specs.declared.refusal.EntryRefusal.TheVariants as refusals
 use Rattle.filterset_sources.specs.Refusals.{Refuses, source_refusal}
-use Rattle.filterset_sources.specs.Shape.{EachMember, WrongMembers}
-use Rattle.filterset_sources.specs.declared.refusal.SourceRefusal.{SourceRefusal}
+use Rattle.filterset_sources.specs.{Shape.EachMember, Shape.WrongMembers, declared.refusal.SourceRefusal.SourceRefusal}
 use Rattle.filterset_sources.specs.declared.refusal.SourceRefusal.TheVariants.{NotJson, NotToml, WrongValue, OutOfMemory}
 
 -- one more member, and one more entry

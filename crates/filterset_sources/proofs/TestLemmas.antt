@@ -1,17 +1,13 @@
 -- Suites with their tests.
 use Rattle.std.proofs.Common.{◌∙◌, Bool, List, None, Option, Some, codes, map}
-use Rattle.std.specs.List.{AllZip}
-use Rattle.std.specs.Prelude.{IsSomeAnd}
+use Rattle.std.specs.{List.AllZip, Prelude.IsSomeAnd}
 pub use Rattle.std.proofs.lemmas.Slice.Zip.{all_zipped_more as AllZip-push}
-use Rattle.serde_json.specs.Data.{Data}
-use Rattle.serde_json.specs.Find.{get}
+use Rattle.serde_json.specs.{Data.Data, Find.get}
 use Rattle.filterset_json.specs.Shape.{Required, Text}
 use Rattle.filterset_sources.specs.Shape.{IsObjectOf}
 use Rattle.filterset_sources.specs.Suites.{IsCounted, IsListedUnder, IsSuiteUnder, IsTestList, ListedRow}
-use Rattle.filterset_sources.specs.declared.list.RunIgnored.{RunIgnored}
-use Rattle.filterset_sources.specs.declared.list.Suite.{Suite}
-use Rattle.filterset_sources.specs.declared.list.suites.ListedSuite.{ListedSuite}
-use Rattle.filterset_sources.specs.declared.list.suites.ListedTest.{ListedTest}
+use Rattle.filterset_sources.specs.declared.list.{RunIgnored.RunIgnored, Suite.Suite}
+use Rattle.filterset_sources.specs.declared.list.suites.{ListedSuite.ListedSuite, ListedTest.ListedTest}
 use Rattle.filterset_sources.proofs.ShapeLemmas.{EachMember-zip}
 
 abbrev pub test_row : ListedTest → Text × Bool

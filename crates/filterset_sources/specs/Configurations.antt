@@ -2,12 +2,10 @@
 use Rattle.std.specs.Prelude.{◌≡◌, ◌+◌, ◌++◌, ◌==◌, ℕ, List, [], ◌∷◌, None, Some, Result, Ok, Err, codes, count_by, map, string_bytes, take}
 use Rattle.std.specs.Option.{option_map_or}
 use Rattle.toml.specs.Data.{Data, table, Members, no_members, member, as_str, get}
-use Rattle.toml.specs.Errors.{span_start}
-use Rattle.toml.specs.Parse.{parse_document}
+use Rattle.toml.specs.{Errors.span_start, Parse.parse_document}
 use Rattle.filterset_faults.specs.declared.kind.FiltersetKind.{FiltersetKind}
 use Rattle.filterset_faults.specs.declared.kind.FiltersetKind.TheVariants.{DefaultFilter, OverrideFilter}
-use Rattle.filterset_json.specs.Places.{Place}
-use Rattle.filterset_json.specs.Shape.{Text}
+use Rattle.filterset_json.specs.{Places.Place, Shape.Text}
 use Rattle.filterset_sources.specs.Sections.{SectionRow, below, members_under, sections_of, wrong_shape}
 use Rattle.filterset_sources.specs.declared.configuration.Configuration.{Configuration}
 use Rattle.filterset_sources.specs.declared.configuration.ConfiguredFilterset.{ConfiguredFilterset}

@@ -1,23 +1,16 @@
 -- What cargo writes of packages.
 use Rattle.std.specs.Prelude.{◌≡◌, ◌↔◌, ◌⊎◌, ◌++◌, ℕ, List, [], ◌∷◌, All, Contains, IsSome, IsTrue, String, Vec, codes, decimal, map, string_bytes}
-use Rattle.std.specs.BTreeMap.{BTreeMap}
-use Rattle.std.specs.Global.{Global}
+use Rattle.std.specs.{BTreeMap.BTreeMap, Global.Global}
 use Rattle.serde_json.specs.Data.{Data, array, no_items, null}
-use Rattle.filterset_graph.specs.Index.{index_of}
-use Rattle.filterset_graph.specs.Packages.{ids, AllDiffer, IsFirstRepeat}
-use Rattle.filterset_graph.specs.declared.package.BuildTarget.{BuildTarget}
-use Rattle.filterset_graph.specs.declared.package.BuildTargetId.{BuildTargetId}
+use Rattle.filterset_graph.specs.{Index.index_of, Packages.ids, Packages.AllDiffer, Packages.IsFirstRepeat}
+use Rattle.filterset_graph.specs.declared.package.{BuildTarget.BuildTarget, BuildTargetId.BuildTargetId}
 use Rattle.filterset_graph.specs.declared.package.BuildTargetId.TheVariants.{Library, Binary, Example, Test, Benchmark, BuildScript}
 use Rattle.filterset_graph.specs.declared.package.PackageMetadata.{PackageMetadata}
 use Rattle.filterset_json.specs.Places.{First, IsFirstNot, Itself, Place, WrongList, WrongMember, keyed, keyed_list, keyed_text}
 use Rattle.filterset_json.specs.Shape.{Text, IsText, IsListOf, Required}
-use Rattle.filterset_sources.specs.Refusals.{Refuses}
-use Rattle.filterset_sources.specs.Shape.{item_path}
-use Rattle.filterset_sources.specs.declared.refusal.SourceRefusal.{SourceRefusal}
-use Rattle.filterset_sources.specs.declared.metadata.parts.Dependency.{Dependency}
-use Rattle.filterset_sources.specs.declared.metadata.parts.Node.{Node}
-use Rattle.filterset_sources.specs.declared.metadata.parts.Parts.{Parts}
-use Rattle.filterset_sources.specs.declared.metadata.parts.Resolve.{Resolve}
+use Rattle.filterset_sources.specs.{Refusals.Refuses, Shape.item_path}
+use Rattle.filterset_sources.specs.declared.{refusal.SourceRefusal.SourceRefusal, metadata.parts.Dependency.Dependency}
+use Rattle.filterset_sources.specs.declared.metadata.parts.{Node.Node, Parts.Parts, Resolve.Resolve}
 
 -- a kind of targets that is no kind of libraries
 abbrev pub IsNamed : Text → BuildTargetId → Type 0

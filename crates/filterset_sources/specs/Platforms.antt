@@ -1,12 +1,10 @@
 -- The platforms for which nextest's list was built.
 use Rattle.std.specs.Prelude.{◌≡◌, List, [], ◌∷◌, Option, None, Some, MatchOption, codes, map, option_map, string_bytes, unwrap_or}
 use Rattle.std.specs.Option.{option_map_or}
-use Rattle.serde_json.specs.Data.{Data, null}
-use Rattle.serde_json.specs.Find.{get}
+use Rattle.serde_json.specs.{Data.Data, Data.null, Find.get}
 use Rattle.filterset_json.specs.Places.{First, Itself, Place, WrongIfGiven, WrongList, WrongMember}
 use Rattle.filterset_json.specs.Shape.{Text, IsListOf, IsNullOr, IsText, Required}
-use Rattle.filterset_sources.specs.declared.platforms.BuildPlatforms.{BuildPlatforms}
-use Rattle.filterset_sources.specs.declared.platforms.ListedPlatforms.{ListedPlatforms}
+use Rattle.filterset_sources.specs.declared.platforms.{BuildPlatforms.BuildPlatforms, ListedPlatforms.ListedPlatforms}
 
 -- P holds of what stands at the end of these keys, each below the one before, and the entry; there is none if one is missing
 abbrev pub GivenAt : {A : Type 0} → List Text → (Data → A → Type 0) → Data → Option A → Type 0

@@ -1,9 +1,7 @@
 -- What a refusal says.
 use Rattle.std.specs.Prelude.{◌≡◌, None, string_bytes}
 use Rattle.serde_json.specs.Read.{read}
-use Rattle.filterset_json.specs.Places.{Place}
-use Rattle.filterset_json.specs.Shape.{Text}
-use Rattle.filterset_json.specs.declared.refusal.EntryRefusal.{EntryRefusal}
+use Rattle.filterset_json.specs.{Places.Place, Shape.Text, declared.refusal.EntryRefusal.EntryRefusal}
 use Rattle.filterset_json.specs.declared.refusal.EntryRefusal.TheVariants as entries
 use Rattle.filterset_sources.specs.declared.refusal.SourceRefusal.{SourceRefusal}
 use Rattle.filterset_sources.specs.declared.refusal.SourceRefusal.TheVariants.{NotJson, NotToml, WrongValue, OutOfMemory}

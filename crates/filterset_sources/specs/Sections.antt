@@ -3,11 +3,9 @@ use Rattle.std.specs.Prelude.{ℕ, ◌+◌, ◌++◌, List, [], ◌∷◌, None,
 use Rattle.std.specs.Option.{option_map_or}
 use Rattle.toml.specs.Data.{Data, Items, no_items, item, Members, no_members, member, as_array, as_table, get}
 use Rattle.toml.specs.View.{view}
-use Rattle.filterset_json.specs.Paths.{key_text}
-use Rattle.filterset_json.specs.Shape.{Text}
+use Rattle.filterset_json.specs.{Paths.key_text, Shape.Text}
 use Rattle.filterset_sources.specs.Shape.{item_path}
-use Rattle.filterset_sources.specs.declared.sections.Section.{Section}
-use Rattle.filterset_sources.specs.declared.sections.SectionKind.{SectionKind}
+use Rattle.filterset_sources.specs.declared.sections.{Section.Section, SectionKind.SectionKind}
 use Rattle.filterset_sources.specs.declared.sections.SectionKind.TheVariants.{File, Profiles, Profile, List as ListKind, Override, Script, Groups}
 
 -- what a section is, its path, and the value there

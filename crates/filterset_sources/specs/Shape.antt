@@ -1,10 +1,7 @@
 -- Shapes of objects in which any key may be, and paths.
 use Rattle.std.specs.Prelude.{◌≡◌, ◌⊎◌, ◌++◌, ℕ, List, [], ◌∷◌, MatchOption, codes, decimal}
-use Rattle.serde_json.specs.Data.{Data, object, Members, no_members, member}
-use Rattle.serde_json.specs.Find.{as_object}
-use Rattle.filterset_json.specs.Paths.{key_text}
-use Rattle.filterset_json.specs.Places.{After, Place}
-use Rattle.filterset_json.specs.Shape.{Text}
+use Rattle.serde_json.specs.{Data.Data, Data.object, Data.Members, Data.no_members, Data.member, Find.as_object}
+use Rattle.filterset_json.specs.{Paths.key_text, Places.After, Places.Place, Shape.Text}
 
 -- P holds of each key, what stands under it and the entry at its position, and there are as many of both
 abbrev pub EachMember : {A : Type 0} → (Text → Data → A → Type 0) → Members → List A → Type 0

@@ -4,11 +4,9 @@ use Rattle.serde_json.specs.Data.{Data}
 use Rattle.filterset_json.specs.Paths.{joined, key_text}
 use Rattle.filterset_json.specs.Places.{First, IsFirstNot, Itself, Place, WrongIfGiven, WrongMember, keyed, keyed_text}
 use Rattle.filterset_json.specs.Shape.{Text, IsBoolean, IsPlatform, IsText, Required, Optional}
-use Rattle.filterset_sources.specs.Shape.{IsObjectOf, WrongObject}
-use Rattle.filterset_sources.specs.declared.list.RunIgnored.{RunIgnored}
+use Rattle.filterset_sources.specs.{Shape.IsObjectOf, Shape.WrongObject, declared.list.RunIgnored.RunIgnored}
 use Rattle.filterset_sources.specs.declared.list.RunIgnored.TheVariants.{All, Default, Only}
-use Rattle.filterset_sources.specs.declared.list.Suite.{Suite}
-use Rattle.filterset_sources.specs.declared.list.SuiteStatus.{SuiteStatus}
+use Rattle.filterset_sources.specs.declared.list.{Suite.Suite, SuiteStatus.SuiteStatus}
 use Rattle.filterset_sources.specs.declared.list.SuiteStatus.TheVariants.{Listed, Skipped}
 
 -- the value is a name of the status

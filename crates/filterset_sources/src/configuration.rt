@@ -1,7 +1,6 @@
 //! Reads the filtersets and test groups of nextest's configuration.
 ghost use Rattle.std.specs.Prelude.{◌≡◌, Err, IfErr, IfOk, Ok, OnOk, Some, codes, map, string_bytes};
-ghost use Rattle.toml.specs.Parse.{parse_document};
-ghost use Rattle.toml.specs.View.{table_view, view};
+ghost use Rattle.toml.specs.{Parse.parse_document, View.table_view, View.view};
 ghost use Rattle.filterset_sources.specs.Configurations.{IsConfiguration, RefusesConfiguration, RefusesToml, all_filters, configured_rows, filter_under, followed_by, keys_of, line_at, section_filters};
 ghost use Rattle.filterset_sources.specs.Refusals.{Refuses};
 ghost use Rattle.filterset_sources.specs.Sections.{members_under, section_row, section_rows};

@@ -1,7 +1,6 @@
 //! The JSON of a file.
 ghost use Rattle.std.specs.Prelude.{◌≡◌, Some, IfErr, IfOk};
-ghost use Rattle.serde_json.specs.Read.{read};
-ghost use Rattle.serde_json.specs.View.{view};
+ghost use Rattle.serde_json.specs.{Read.read, View.view};
 ghost use Rattle.filterset_sources.specs.Refusals.{RefusesJson};
 
 use crate::refusal::SourceRefusal;

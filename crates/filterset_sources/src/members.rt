@@ -1,10 +1,7 @@
 //! Entries that are the members of an object.
 ghost use Rattle.std.specs.Prelude.{IfErr, IfOk, List, map};
-ghost use Rattle.serde_json.specs.Data.{Data};
-ghost use Rattle.serde_json.specs.View.{members_view, view};
-ghost use Rattle.filterset_json.specs.Places.{Names, Place};
-ghost use Rattle.filterset_json.specs.Refusals.{Refuses};
-ghost use Rattle.filterset_json.specs.Shape.{Text};
+ghost use Rattle.serde_json.specs.{Data.Data, View.members_view, View.view};
+ghost use Rattle.filterset_json.specs.{Places.Names, Places.Place, Refusals.Refuses, Shape.Text};
 ghost use Rattle.filterset_sources.specs.Shape.{EachMember, WrongMembers};
 
 use filterset_json::{Entry, EntryRefusal, Step};

@@ -4,8 +4,7 @@ ghost use Rattle.serde_json.specs.View.{view};
 ghost use Rattle.filterset_graph.specs.Index.{PositionsAre, index_of};
 ghost use Rattle.filterset_graph.specs.Packages.{AllDiffer, LinksKnown, ids};
 ghost use Rattle.filterset_sources.specs.Metadata.{AreLinked, HasLinksOf, IsGraphOf, IsKnown, IsMetadata, IsWhole, NamesOnly, RefusesMetadata, Repeats, Unknown, UnknownNode, WrongWhole, link_path, links_of, node_ids};
-ghost use Rattle.filterset_sources.specs.Refusals.{Refuses};
-ghost use Rattle.filterset_sources.specs.Shape.{item_path};
+ghost use Rattle.filterset_sources.specs.{Refusals.Refuses, Shape.item_path};
 
 use crate::refusal::SourceRefusal;
 use filterset_graph::{GraphRefusal, PackageGraph, PackageId, PackageMetadata};

@@ -1,8 +1,7 @@
 //! Reads for which platforms `cargo nextest list --message-format json` built its tests.
 ghost use Rattle.std.specs.Prelude.{◌≡◌, Option, IfErr, IfOk, map, option_map, string_bytes};
 ghost use Rattle.serde_json.specs.View.{view};
-ghost use Rattle.filterset_json.specs.Places.{Names};
-ghost use Rattle.filterset_json.specs.Refusals.{Refuses as RefusesEntry};
+ghost use Rattle.filterset_json.specs.{Places.Names, Refusals.Refuses as RefusesEntry};
 ghost use Rattle.filterset_sources.specs.Platforms.{ArePlatforms, AreListed, GivenAt, WrongAt, WrongPlatforms};
 ghost use Rattle.filterset_sources.specs.Refusals.{Refuses};
 

@@ -1,7 +1,6 @@
 //! Finds the sections of nextest's configuration.
 ghost use Rattle.std.specs.Prelude.{◌≡◌, ◌++◌, IfOk, OnOk, codes, option_and_then, option_map};
-ghost use Rattle.toml.specs.Data.{as_table, get};
-ghost use Rattle.toml.specs.View.{table_view, view};
+ghost use Rattle.toml.specs.{Data.as_table, Data.get, View.table_view, View.view};
 ghost use Rattle.filterset_json.specs.Paths.{key_text};
 ghost use Rattle.filterset_sources.specs.Sections.{below, list_sections, member_sections, members_under, profile_sections, section_rows, sections_of, sections_under, wrong_shape};
 

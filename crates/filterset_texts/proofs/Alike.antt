@@ -1,16 +1,12 @@
 -- Each character is like the greatest cut up to it.
 use Rattle.std.proofs.Common.{◌≡◌, ◌↔◌, ℕ, zero, suc, ◌+◌, ◌<◌, ◌≤◌, Bool, true, false, refl, sym, ap, subst, List, [], ◌∷◌, ◌++◌, inl, inr, ⊎_elim, length, get_or, Option, Some, None, arith}
-use Rattle.std.specs.Prelude.{◌⊎◌}
-use Rattle.std.specs.Char.{InScalarRange}
-use Rattle.std.specs.List.{All, flat_map}
-use Rattle.std.proofs.lemmas.Bool.{cases_lt}
-use Rattle.std.proofs.lemmas.List.Elements.{All-head, All-tail}
+use Rattle.std.specs.{Prelude.◌⊎◌, Char.InScalarRange, List.All, List.flat_map}
+use Rattle.std.proofs.lemmas.{Bool.cases_lt, List.Elements.All-head, List.Elements.All-tail}
 use Rattle.filterset_glob.specs.Matching.{InClass, InRanges}
-use Rattle.filterset_texts.specs.declared.letters.Letter.{Letter}
-use Rattle.filterset_texts.specs.declared.part.Part.{Part}
-use Rattle.filterset_texts.specs.declared.part.Part.TheVariants as part
+use Rattle.filterset_texts.specs.declared.{letters.Letter.Letter, part.Part.Part}
 use Rattle.filterset_texts.specs.Letters.{cuts_of, cuts_of_place, cuts_of_ranges, HasLetterLike}
 use Rattle.filterset_texts.specs.Places.{Admits, IsAdmittedAt}
+use Rattle.filterset_texts.specs.declared.part.Part.TheVariants as part
 
 abbrev pub Among : ℕ → List ℕ → Type 0
 Among k [] = ⊥

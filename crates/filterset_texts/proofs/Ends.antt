@@ -1,14 +1,10 @@
 -- The places at the ends of sequences, and the places behind some of the conditions.
 use Rattle.std.proofs.Common.{◌≡◌, ◌↔◌, ℕ, ◌+◌, ◌<◌, ◌≤◌, Bool, true, false, refl, sym, ◌∙◌, ap, subst, List, [], ◌∷◌, ◌++◌, append_assoc, length, take, drop, get_or, map, Option, Some, None, IsTrue, arith, add-one}
-use Rattle.std.specs.declared.vec.Vec.{Vec}
-use Rattle.std.specs.declared.alloc.Global.{Global}
-use Rattle.std.proofs.Math.Bool.{beq, not}
-use Rattle.std.proofs.Math.Seq.{take-append-add}
-use Rattle.std.proofs.lemmas.Bool.{false≢true}
-use Rattle.std.proofs.lemmas.Grind.{flat_map-append}
+use Rattle.std.specs.declared.{vec.Vec.Vec, alloc.Global.Global}
+use Rattle.std.proofs.Math.{Bool.beq, Bool.not, Seq.take-append-add}
+use Rattle.std.proofs.lemmas.{Bool.false≢true, Grind.flat_map-append}
 use Rattle.std.proofs.lemmas.List.{append-nil, length-append, length-map, length-drop, take_at, drop_more, take-append-drop, get_or-drop, take_more}
-use Rattle.filterset_texts.specs.declared.part.Part.{Part}
-use Rattle.filterset_texts.specs.declared.part.Condition.{Condition}
+use Rattle.filterset_texts.specs.declared.part.{Part.Part, Condition.Condition}
 use Rattle.filterset_texts.specs.Parts.{Fits, all_place_count, place_count}
 use Rattle.filterset_texts.specs.Places.{BeginsAnew, LeadsTo, parts_before, places_of, places_of_parts, places_of_sequences}
 

@@ -1,20 +1,11 @@
 -- If no letter leads out of the states, every text leads to one of them.
 use Rattle.std.proofs.Common.{◌≡◌, ℕ, ◌+◌, ◌<◌, ◌≤◌, sym, ◌∙◌, ap, subst, List, [], ◌∷◌, ◌++◌, append_assoc, length, get_or, take, true, Option, ⊎_elim, inl, inr, arith}
-use Rattle.std.specs.Char.{InScalarRange}
-use Rattle.std.specs.List.{All, Any}
-use Rattle.std.specs.Str.{IsUtf8, chars}
-use Rattle.std.proofs.Math.Utf8.{scalar, scalar_cases, scalars}
-use Rattle.std.proofs.lemmas.Bool.{and_parts}
+use Rattle.std.specs.{Char.InScalarRange, List.All, List.Any, Str.IsUtf8, Str.chars}
+use Rattle.std.proofs.{Math.Utf8.scalar, Math.Utf8.scalar_cases, Math.Utf8.scalars, lemmas.Bool.and_parts}
 use Rattle.std.proofs.lemmas.List.{append-nil, get_or_append_left, length-append, take-append-le}
-use Rattle.std.proofs.lemmas.List.Elements.{All-more, All-weaker}
-use Rattle.std.proofs.lemmas.Str.{scalars-chars}
-use Rattle.filterset_texts.specs.declared.letters.Letter.{Letter}
-use Rattle.filterset_texts.specs.declared.part.Condition.{Condition}
-use Rattle.filterset_texts.specs.declared.part.Part.{Part}
-use Rattle.filterset_texts.specs.declared.states.State.{State}
-use Rattle.filterset_texts.specs.Letters.{AreLetters}
-use Rattle.filterset_texts.specs.Parts.{Meets}
-use Rattle.filterset_texts.specs.Places.{LeadsTo}
+use Rattle.std.proofs.lemmas.{List.Elements.All-more, List.Elements.All-weaker, Str.scalars-chars}
+use Rattle.filterset_texts.specs.declared.{letters.Letter.Letter, part.Condition.Condition, part.Part.Part}
+use Rattle.filterset_texts.specs.{declared.states.State.State, Letters.AreLetters, Parts.Meets, Places.LeadsTo}
 use Rattle.filterset_texts.specs.Searching.{AreStates, HasNext, LeadsOn}
 use Rattle.filterset_texts.proofs.Lists.{any_left}
 

@@ -1,15 +1,9 @@
 -- The sequences of each kind of matcher.
 use Rattle.std.proofs.Common.{◌≡◌, ◌-◌, ◌^◌, ◌≤◌, ℕ, Bool, IsUtf8, List, arith, length, min}
-use Rattle.std.specs.Prelude.{chars}
-use Rattle.std.specs.Str.Iter.{HasSubslice}
-use Rattle.std.specs.declared.vec.Vec.{Vec}
-use Rattle.std.specs.declared.alloc.Global.{Global}
-use Rattle.filterset_glob.specs.Matching.{Matches}
-use Rattle.filterset_glob.specs.Tokens.{Tokens}
+use Rattle.std.specs.{Prelude.chars, Str.Iter.HasSubslice, declared.vec.Vec.Vec, declared.alloc.Global.Global}
+use Rattle.filterset_glob.specs.{Matching.Matches, Tokens.Tokens}
 use Rattle.filterset_matchers.specs.Matcher as matcher
-use Rattle.filterset_texts.specs.Cuts.{HoldTogether}
-use Rattle.filterset_texts.specs.Expanding.{AreSequencesOf, sequence_count}
-use Rattle.filterset_texts.specs.Parts.{FitsSome}
+use Rattle.filterset_texts.specs.{Cuts.HoldTogether, Expanding.AreSequencesOf, Expanding.sequence_count, Parts.FitsSome}
 use Rattle.filterset_texts.specs.declared.part.Part.{Part}
 use Rattle.filterset_texts.proofs.Spelling.{contains_by_chars, equal_by_chars}
 

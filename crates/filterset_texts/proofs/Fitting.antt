@@ -1,13 +1,10 @@
 -- What the parts of a sequence fit, from their last on.
 use Rattle.std.proofs.Common.{◌≡◌, ℕ, refl, sym, ◌∙◌, ap, List, [], ◌∷◌, ◌++◌, append_assoc}
-use Rattle.std.specs.Prelude.{Bool}
 use Rattle.std.proofs.lemmas.List.{append-nil}
+use Rattle.std.specs.{Prelude.Bool, declared.alloc.Global.Global, declared.vec.Vec.Vec}
 use Rattle.filterset_glob.specs.Matching.{InClass}
-use Rattle.filterset_texts.specs.Parts.{Fits}
-use Rattle.filterset_texts.specs.declared.part.Part.{Part}
+use Rattle.filterset_texts.specs.{Parts.Fits, declared.part.Part.Part}
 use Rattle.filterset_texts.specs.declared.part.Part.TheVariants as part
-use Rattle.std.specs.declared.vec.Vec.{Vec}
-use Rattle.std.specs.declared.alloc.Global.{Global}
 
 -- the last part, one of one character, takes the last character of the text
 abbrev pub FitsLastOne : List Part → Bool → List (ℕ × ℕ) → List ℕ → Type 0

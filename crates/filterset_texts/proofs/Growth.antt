@@ -1,19 +1,13 @@
 -- States that are added to others, and their texts.
 use Rattle.std.proofs.Common.{◌≡◌, ◌≢◌, ℕ, ◌+◌, ◌<◌, refl, sym, ◌∙◌, ap, subst, List, [], ◌∷◌, ◌++◌, append_assoc, length, get_or, take, Option, string_bytes, arith}
-use Rattle.std.specs.Char.{IsScalar}
-use Rattle.std.specs.Str.{IsUtf8, chars}
-use Rattle.std.specs.List.{All, Any}
-use Rattle.std.proofs.Math.Utf8.{encode}
-use Rattle.std.proofs.lemmas.Bool.{and_from}
+use Rattle.std.specs.{Char.IsScalar, Str.IsUtf8, Str.chars, List.All, List.Any}
+use Rattle.std.proofs.{Math.Utf8.encode, lemmas.Bool.and_from}
 use Rattle.std.proofs.lemmas.List.{append-nil, get_or_append_left, get_or_default}
 use Rattle.std.proofs.lemmas.List.Elements.{All-more, All-nil, All-push, All-weaker}
 use Rattle.std.proofs.lemmas.List.Quantifiers.{Any-push, all_pairs_push}
 use Rattle.std.proofs.lemmas.Str.{chars-append, chars-encodes, chars-nil}
-use Rattle.filterset_texts.specs.declared.letters.Letter.{Letter}
-use Rattle.filterset_texts.specs.declared.part.Part.{Part}
-use Rattle.filterset_texts.specs.declared.states.State.{State}
-use Rattle.filterset_texts.specs.Places.{LeadsTo}
-use Rattle.filterset_texts.specs.Searching.{AreStates, HasNext, LeadsOn}
+use Rattle.filterset_texts.specs.declared.{letters.Letter.Letter, part.Part.Part, states.State.State}
+use Rattle.filterset_texts.specs.{Places.LeadsTo, Searching.AreStates, Searching.HasNext, Searching.LeadsOn}
 use Rattle.filterset_texts.proofs.Lists.{any_left}
 
 pub chars_longer : (old new : List ℕ) (c : ℕ) → IsUtf8 old → IsScalar c → new ≡ old ++ encode c → chars new ≡ chars old ++ c ∷ []

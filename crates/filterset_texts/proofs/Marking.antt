@@ -1,17 +1,15 @@
 -- Marks of places, one after the other.
 use Rattle.std.proofs.Common.{◌≡◌, ◌↔◌, ℕ, zero, suc, ◌+◌, ◌<◌, Bool, false, refl, sym, ◌∙◌, ap, subst, List, [], ◌∷◌, ◌++◌, inl, inr, ⊎_elim, append_assoc, length, take, get_or, Option, Some, None, IsTrue, arith, below_more}
-use Rattle.std.specs.Borrow.{Bor}
-use Rattle.std.specs.Prelude.{◌⊎◌, ◌||◌, ◌&&◌}
+use Rattle.std.specs.{Borrow.Bor, Prelude.◌⊎◌, Prelude.◌||◌, Prelude.◌&&◌}
 use Rattle.std.proofs.lemmas.Bool.{false≢true, and_parts, and_from, or_cases, or_left, or_right}
 use Rattle.std.proofs.lemmas.List.{append-nil, same_from_push, take_more, length_push, get_or_push, get_or_append_left, get_or-map, length-map}
+use Rattle.std.specs.declared.{vec.Vec.Vec, alloc.Global.Global}
 use Rattle.filterset_glob.specs.Matching.{InClass}
 use Rattle.filterset_texts.specs.Parts.{Fits}
 use Rattle.filterset_texts.specs.Places.{parts_before, LeadsTo, IsAdmittedAt, Admits, BeginsAnew, place_of, row_of}
 use Rattle.filterset_texts.specs.declared.part.Part.{Part}
-use Rattle.filterset_texts.specs.declared.part.Part.TheVariants as part
 use Rattle.filterset_texts.proofs.Fitting.{one_last, last_one, any_last, last_any}
-use Rattle.std.specs.declared.vec.Vec.{Vec}
-use Rattle.std.specs.declared.alloc.Global.{Global}
+use Rattle.filterset_texts.specs.declared.part.Part.TheVariants as part
 
 abbrev pub parts_behind : List Part → Option Part → List Part
 parts_behind parts None = []

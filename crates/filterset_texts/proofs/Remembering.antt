@@ -1,16 +1,11 @@
 -- A set that has the marks of states.
 use Rattle.std.proofs.Common.{◌≡◌, ◌↔◌, refl, sym, ◌∙◌, ap, List, [], ◌∷◌, ◌++◌, Bool, true, false, cond, IsTrue}
-use Rattle.std.specs.Prelude.{◌||◌}
-use Rattle.std.specs.Bool.{Decides}
-use Rattle.std.specs.Cmp.{booleans_Decides}
+use Rattle.std.specs.{Prelude.◌||◌, Bool.Decides, Cmp.booleans_Decides}
 use Rattle.std.specs.HashSet.{HashSet, contains, IsEmpty, Updates}
-use Rattle.std.specs.List.{Any, list_any}
-use Rattle.std.specs.declared.vec.Vec.{Vec}
-use Rattle.std.specs.declared.alloc.Global.{Global}
+use Rattle.std.specs.{List.Any, List.list_any, declared.vec.Vec.Vec, declared.alloc.Global.Global}
 use Rattle.std.proofs.lemmas.List.Folds.{Any-from_list_any, list_any-append, list_any-from_Any}
 use Rattle.std.proofs.lemmas.Slice.Eq.{slice_eq-Decides}
-use Rattle.filterset_texts.specs.declared.states.State.{State}
-use Rattle.filterset_texts.specs.Searching.{AreSeen, same_marks}
+use Rattle.filterset_texts.specs.{declared.states.State.State, Searching.AreSeen, Searching.same_marks}
 use Rattle.filterset_texts.proofs.Lists.{any_weaker, same_bool}
 
 marks_decides : (marks others : Vec Bool Global) → Decides (same_marks marks others) (marks.items ≡ others.items)

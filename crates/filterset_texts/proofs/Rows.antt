@@ -1,15 +1,11 @@
 -- The sequences of tokens in a row, and of the branches of a group.
 use Rattle.std.proofs.Common.{◌≡◌, ◌*◌, ◌≤◌, ◌++◌, ◌⊎◌, ⊎_elim, ℕ, List, [], ◌∷◌, arith, inl, inr, Result, IfOk}
-use Rattle.std.proofs.Math.Nat.{mul-le-mul_left}
-use Rattle.std.proofs.lemmas.Result.{IfOk-weaker}
-use Rattle.std.specs.declared.alloc.AllocError.{AllocError}
-use Rattle.std.specs.declared.vec.Vec.{Vec}
-use Rattle.std.specs.declared.alloc.Global.{Global}
+use Rattle.std.proofs.{Math.Nat.mul-le-mul_left, lemmas.Result.IfOk-weaker}
+use Rattle.std.specs.declared.{alloc.AllocError.AllocError, vec.Vec.Vec, alloc.Global.Global}
 use Rattle.filterset_glob.specs.Matching.{Matches, MatchesSome, MatchesToken}
 use Rattle.filterset_glob.specs.Tokens.{Token, Tokens, next_token, Branches, branch}
 use Rattle.filterset_texts.specs.Cuts.{HoldInTurn, HoldTogether}
-use Rattle.filterset_texts.specs.Parts.{Fits, FitsSome}
-use Rattle.filterset_texts.specs.declared.part.Part.{Part}
+use Rattle.filterset_texts.specs.{Parts.Fits, Parts.FitsSome, declared.part.Part.Part}
 use Rattle.filterset_texts.proofs.Cuts.{together_then, together_back, in_turn_both, in_turn_assoc, in_turn_nothing, nothing_in_turn}
 use Rattle.filterset_texts.proofs.Sequences.{some_append, some_of_one}
 

@@ -1,14 +1,11 @@
 -- What sequences match that are appended, pushed or joined.
 use Rattle.std.proofs.Common.{◌≡◌, ◌↔◌, ◌∙◌, ◌+◌, ◌++◌, ◌<◌, ◌⊎◌, ⊎_elim, ℕ, zero, suc, List, [], ◌∷◌, ap, arith, get_or, inl, inr, length, refl, subst, sym, take}
-use Rattle.std.specs.List.{Any}
 use Rattle.std.proofs.lemmas.List.{take_more, append_assoc}
-use Rattle.std.specs.declared.vec.Vec.{Vec}
-use Rattle.std.specs.declared.alloc.Global.{Global}
+use Rattle.std.specs.{List.Any, declared.alloc.Global.Global, declared.vec.Vec.Vec}
 use Rattle.filterset_texts.specs.Cuts.{HoldInTurn, HoldTogether}
-use Rattle.filterset_texts.specs.Parts.{Fits, FitsSome}
-use Rattle.filterset_texts.specs.declared.part.Part.{Part}
-use Rattle.filterset_texts.specs.declared.part.Part.TheVariants as part
+use Rattle.filterset_texts.specs.{Parts.Fits, Parts.FitsSome, declared.part.Part.Part}
 use Rattle.filterset_texts.proofs.Cuts.{together_then, together_back, in_turn_both, in_turn_assoc, nothing_in_turn}
+use Rattle.filterset_texts.specs.declared.part.Part.TheVariants as part
 
 -- appended sequences match texts in two pieces, one for each
 pub fits_append : (fronts backs : List Part) → HoldTogether (Fits (fronts ++ backs)) (HoldInTurn (Fits fronts) (Fits backs))

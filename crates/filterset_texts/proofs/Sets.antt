@@ -1,21 +1,12 @@
 -- There are no more states than sets of places.
 use Rattle.std.proofs.Common.{◌≡◌, ◌≢◌, take, ℕ, ◌+◌, ◌*◌, ◌^◌, ◌<◌, ◌≤◌, refl, sym, ◌∙◌, ap, subst, List, [], ◌∷◌, length, get_or, map, Bool, true, false, Option, string_bytes, arith}
-use Rattle.std.specs.List.{All, AllPairs, Any}
-use Rattle.std.specs.Str.{IsUtf8, chars}
-use Rattle.std.proofs.lemmas.Str.{IsUtf8-string_bytes}
-use Rattle.std.proofs.Math.Dec.{eqb}
-use Rattle.std.proofs.Math.Nat.{pow-succ'}
-use Rattle.std.proofs.lemmas.Bool.Decides.{Decides-eqb}
-use Rattle.std.proofs.lemmas.List.{ext_get_or, get_or-map, length-map}
-use Rattle.std.proofs.lemmas.List.Elements.{All-map, All-weaker}
-use Rattle.std.proofs.lemmas.List.Folds.{Any-from_list_any}
-use Rattle.std.proofs.lemmas.Map.Made.{IsDistinct-from_AllPairs}
-use Rattle.std.proofs.lemmas.Map.Steps.{length-le_from_distinct_below}
-use Rattle.filterset_texts.specs.declared.part.Condition.{Condition}
-use Rattle.filterset_texts.specs.declared.part.Part.{Part}
-use Rattle.filterset_texts.specs.Parts.{Fits}
-use Rattle.filterset_texts.specs.declared.states.State.{State}
-use Rattle.filterset_texts.specs.Places.{LeadsTo, parts_before, places_of}
+use Rattle.std.specs.{List.All, List.AllPairs, List.Any, Str.IsUtf8, Str.chars}
+use Rattle.std.proofs.{lemmas.Str.IsUtf8-string_bytes, Math.Dec.eqb, Math.Nat.pow-succ'}
+use Rattle.std.proofs.lemmas.{Bool.Decides.Decides-eqb, List.ext_get_or, List.get_or-map, List.length-map}
+use Rattle.std.proofs.lemmas.List.{Elements.All-map, Elements.All-weaker, Folds.Any-from_list_any}
+use Rattle.std.proofs.lemmas.Map.{Made.IsDistinct-from_AllPairs, Steps.length-le_from_distinct_below}
+use Rattle.filterset_texts.specs.{declared.part.Condition.Condition, declared.part.Part.Part, Parts.Fits}
+use Rattle.filterset_texts.specs.{declared.states.State.State, Places.LeadsTo, Places.parts_before, Places.places_of}
 use Rattle.filterset_texts.specs.Searching.{AreStates, ExceedsLimit, HasSets, LeadApart}
 use Rattle.filterset_texts.proofs.Lists.{same_bool}
 

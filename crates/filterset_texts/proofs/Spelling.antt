@@ -1,16 +1,13 @@
 -- Sequences of the characters of a text, and texts as bytes and as characters.
 use Rattle.std.proofs.Common.{◌≡◌, ◌↔◌, ◌∙◌, ◌++◌, ℕ, IsUtf8, List, [], ◌∷◌, ap, length, refl, subst, sym, take}
-use Rattle.std.specs.Prelude.{chars, encode_utf8_all}
-use Rattle.std.proofs.lemmas.Str.{IsUtf8-take, chars-append, chars-nil, encodes-append, encodes-chars}
 use Rattle.std.proofs.lemmas.List.{append-nil, append_assoc, take_at}
-use Rattle.std.specs.Str.Iter.{HasSubslice}
+use Rattle.std.proofs.lemmas.Str.{IsUtf8-take, chars-append, chars-nil, encodes-append, encodes-chars}
+use Rattle.std.specs.{Prelude.chars, Prelude.encode_utf8_all, Str.Iter.HasSubslice}
 use Rattle.filterset_matchers.proofs.PlainLemmas.{begins_a_character}
-use Rattle.filterset_texts.specs.Cuts.{HoldInTurn, HoldTogether}
-use Rattle.filterset_texts.specs.Parts.{Fits}
-use Rattle.filterset_texts.specs.declared.part.Part.{Part}
-use Rattle.filterset_texts.specs.declared.part.Part.TheVariants as part
+use Rattle.filterset_texts.specs.{Cuts.HoldInTurn, Cuts.HoldTogether, Parts.Fits, declared.part.Part.Part}
 use Rattle.filterset_texts.proofs.Cuts.{together_back, together_then, in_turn_both, in_turn_assoc, nothing_in_turn}
 use Rattle.filterset_texts.proofs.Sequences.{fits_append}
+use Rattle.filterset_texts.specs.declared.part.Part.TheVariants as part
 
 -- the text and no other
 abbrev pub IsText : List ℕ → List ℕ → Type 0

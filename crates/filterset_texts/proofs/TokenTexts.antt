@@ -1,15 +1,12 @@
 -- The texts that single tokens match, and the sequences that they are expanded to.
 use Rattle.std.proofs.Common.{◌≡◌, ◌↔◌, ◌∙◌, ◌≤◌, ◌++◌, ◌⊎◌, ⊎_elim, ℕ, List, [], ◌∷◌, Bool, false, true, ap, arith, inl, inr, refl, subst, sym}
 use Rattle.std.proofs.lemmas.List.{append-nil}
-use Rattle.std.specs.declared.vec.Vec.{Vec}
-use Rattle.std.specs.declared.alloc.Global.{Global}
+use Rattle.std.specs.declared.{vec.Vec.Vec, alloc.Global.Global}
 use Rattle.filterset_glob.specs.Matching.{EndsInSlash, InClass, InRanges, MatchesToken, slash}
 use Rattle.filterset_glob.specs.Tokens.{any_char, class, deep_first, deep_last, deep_mid, literal, star}
-use Rattle.filterset_texts.specs.Cuts.{HoldTogether}
-use Rattle.filterset_texts.specs.Parts.{Fits, FitsSome}
-use Rattle.filterset_texts.specs.declared.part.Part.{Part}
-use Rattle.filterset_texts.specs.declared.part.Part.TheVariants as part
+use Rattle.filterset_texts.specs.{Cuts.HoldTogether, Parts.Fits, Parts.FitsSome, declared.part.Part.Part}
 use Rattle.filterset_texts.proofs.Sequences.{any_cons, any_none, fits_append, some_of_one}
+use Rattle.filterset_texts.specs.declared.part.Part.TheVariants as part
 
 -- the range from a character to itself
 in_own_range : (c d : ℕ) → InRanges ((c, c) ∷ []) d ↔ (d ≡ c)

@@ -1,12 +1,10 @@
 -- The sequences that matchers are expanded to, and how many there are.
 use Rattle.std.specs.Prelude.{◌↔◌, ℕ, ◌+◌, ◌*◌, ◌<◌, ◌≤◌, IsUtf8, List, chars, length, max}
-use Rattle.std.specs.declared.vec.Vec.{Vec}
-use Rattle.std.specs.declared.alloc.Global.{Global}
+use Rattle.std.specs.declared.{vec.Vec.Vec, alloc.Global.Global}
 use Rattle.filterset_glob.specs.Tokens.{Token, alternates, deep_first, deep_mid, Tokens, no_token, next_token, Branches, no_more, branch}
 use Rattle.filterset_matchers.specs.Matcher as matcher
 use Rattle.filterset_matchers.specs.Matcher.{Matcher, MatchesName}
-use Rattle.filterset_texts.specs.Parts.{FitsSome}
-use Rattle.filterset_texts.specs.declared.expanding.Expansion.{Expansion}
+use Rattle.filterset_texts.specs.{Parts.FitsSome, declared.expanding.Expansion.Expansion}
 use Rattle.filterset_texts.specs.declared.expanding.Expansion.TheVariants.{Sequences, Pattern, TooMany}
 use Rattle.filterset_texts.specs.declared.part.Part.{Part}
 

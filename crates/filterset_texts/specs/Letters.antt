@@ -1,11 +1,8 @@
 -- Letters: of the characters that the same parts admit, a search needs only one.
 use Rattle.std.specs.Prelude.{◌+◌, ℕ, List, [], ◌∷◌, Option, Some}
-use Rattle.std.specs.Char.{InScalarRange}
-use Rattle.std.specs.List.{All, Any, flat_map}
-use Rattle.filterset_texts.specs.declared.letters.Letter.{Letter}
-use Rattle.filterset_texts.specs.declared.part.Part.{Part}
+use Rattle.std.specs.{Char.InScalarRange, List.All, List.Any, List.flat_map}
+use Rattle.filterset_texts.specs.{declared.letters.Letter.Letter, declared.part.Part.Part, Places.IsAdmittedAt}
 use Rattle.filterset_texts.specs.declared.part.Part.TheVariants as part
-use Rattle.filterset_texts.specs.Places.{IsAdmittedAt}
 
 -- where the ranges begin, and where what is behind them begins
 abbrev pub cuts_of_ranges : List (ℕ × ℕ) → List ℕ

@@ -1,12 +1,9 @@
 -- What sequences of parts match, and how many parts conditions have.
 use Rattle.std.specs.Prelude.{◌≡◌, ◌↔◌, ◌+◌, ◌++◌, ℕ, List, [], ◌∷◌, IsTrue, length}
-use Rattle.std.specs.List.{Any, AllByRecursion}
-use Rattle.std.specs.declared.vec.Vec.{Vec}
-use Rattle.std.specs.declared.alloc.Global.{Global}
+use Rattle.std.specs.{List.Any, List.AllByRecursion, declared.vec.Vec.Vec, declared.alloc.Global.Global}
 use Rattle.filterset_glob.specs.Matching.{InClass}
-use Rattle.filterset_texts.specs.declared.part.Part.{Part}
+use Rattle.filterset_texts.specs.declared.part.{Part.Part, Condition.Condition}
 use Rattle.filterset_texts.specs.declared.part.Part.TheVariants as part
-use Rattle.filterset_texts.specs.declared.part.Condition.{Condition}
 
 -- the text, given by its characters, can be cut into pieces, one for each part in order, each matched by its part
 abbrev pub Fits : List Part → List ℕ → Type 0

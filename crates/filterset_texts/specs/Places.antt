@@ -1,14 +1,9 @@
 -- The places before, between and behind the parts of sequences, and the texts that lead to them.
 use Rattle.std.specs.Prelude.{◌≡◌, ◌↔◌, ◌+◌, ◌<◌, ◌++◌, ℕ, Bool, false, List, [], ◌∷◌, Option, Some, None, IsTrue, length, map, take, slice_index_or}
-use Rattle.std.specs.Borrow.{Bor}
-use Rattle.std.specs.List.{flat_map}
-use Rattle.std.specs.declared.vec.Vec.{Vec}
-use Rattle.std.specs.declared.alloc.Global.{Global}
+use Rattle.std.specs.{Borrow.Bor, List.flat_map, declared.vec.Vec.Vec, declared.alloc.Global.Global}
 use Rattle.filterset_glob.specs.Matching.{InClass}
-use Rattle.filterset_texts.specs.declared.part.Part.{Part}
+use Rattle.filterset_texts.specs.{declared.part.Part.Part, declared.part.Condition.Condition, Parts.Fits}
 use Rattle.filterset_texts.specs.declared.part.Part.TheVariants as part
-use Rattle.filterset_texts.specs.declared.part.Condition.{Condition}
-use Rattle.filterset_texts.specs.Parts.{Fits}
 
 -- the part before each place of the sequence, and none for the first place
 abbrev pub places_of_parts : List Part → List (Option Part)

@@ -1,19 +1,13 @@
 -- What a search for a text finds, and what it has reached on its way.
 use Rattle.std.specs.Prelude.{◌≡◌, ◌≢◌, ◌++◌, ◌^◌, ◌<◌, ℕ, List, [], ◌∷◌, Bool, Option, length, string_bytes}
 use Rattle.std.proofs.Math.Bool.{beq}
-use Rattle.std.specs.Cmp.Lexicographic.{pointwise}
-use Rattle.std.specs.HashSet.{HashSet, contains}
+use Rattle.std.specs.{Cmp.Lexicographic.pointwise, HashSet.HashSet, HashSet.contains}
 use Rattle.std.specs.List.{All, AllPairs, Any, list_any}
-use Rattle.std.specs.declared.vec.Vec.{Vec}
-use Rattle.std.specs.declared.alloc.Global.{Global}
-use Rattle.std.specs.Str.{IsUtf8, chars}
-use Rattle.filterset_texts.specs.declared.letters.Letter.{Letter}
-use Rattle.filterset_texts.specs.declared.part.Condition.{Condition}
-use Rattle.filterset_texts.specs.declared.part.Part.{Part}
+use Rattle.std.specs.{declared.vec.Vec.Vec, declared.alloc.Global.Global, Str.IsUtf8, Str.chars}
+use Rattle.filterset_texts.specs.declared.{letters.Letter.Letter, part.Condition.Condition, part.Part.Part}
 use Rattle.filterset_texts.specs.declared.searching.Found.{Found}
 use Rattle.filterset_texts.specs.declared.searching.Found.TheVariants.{Text, Nothing, Stopped}
-use Rattle.filterset_texts.specs.declared.states.State.{State}
-use Rattle.filterset_texts.specs.Parts.{Meets, all_place_count}
+use Rattle.filterset_texts.specs.{declared.states.State.State, Parts.Meets, Parts.all_place_count}
 use Rattle.filterset_texts.specs.Places.{IsAdmittedAt, LeadsTo, places_of}
 
 -- the texts lead to different sets of places

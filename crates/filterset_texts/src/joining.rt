@@ -1,7 +1,6 @@
 //! Sequences of parts, joined.
 ghost use Rattle.std.specs.Prelude.{◌≡◌, ◌+◌, ◌*◌, ◌⊎◌, [], ◌∷◌, length, IfOk, OnOk};
-ghost use Rattle.filterset_texts.specs.Cuts.{HoldInTurn, HoldTogether};
-ghost use Rattle.filterset_texts.specs.Parts.{Fits, FitsSome};
+ghost use Rattle.filterset_texts.specs.{Cuts.HoldInTurn, Cuts.HoldTogether, Parts.Fits, Parts.FitsSome};
 
 use crate::part::Part;
 use std::alloc::{AllocError, Global};

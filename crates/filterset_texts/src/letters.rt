@@ -1,8 +1,7 @@
 //! Letters: of the characters that the same parts admit, a search needs only one.
 
 ghost use Rattle.std.specs.Prelude.{◌≡◌, ◌++◌, ◌↔◌, IfOk, IsTrue, OnOk};
-ghost use Rattle.std.specs.Char.{InScalarRange};
-ghost use Rattle.std.specs.List.{All, Any};
+ghost use Rattle.std.specs.{Char.InScalarRange, List.All, List.Any};
 ghost use Rattle.filterset_glob.specs.Matching.{InRanges};
 ghost use Rattle.filterset_texts.specs.Letters.{AreLetters, HasLetterLike, KeepsLetters, cuts_of, cuts_of_ranges};
 ghost use Rattle.filterset_texts.specs.Places.{Admits, IsAdmittedAt, place_of, row_of};

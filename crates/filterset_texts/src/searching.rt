@@ -1,8 +1,7 @@
 //! The search for a text that meets conditions.
 
 ghost use Rattle.std.specs.Prelude.{◌≡◌, ◌≤◌, ◌<◌, ◌^◌, IfOk};
-ghost use Rattle.filterset_texts.specs.Parts.{all_place_count};
-ghost use Rattle.filterset_texts.specs.Searching.{HasSets, IsRight};
+ghost use Rattle.filterset_texts.specs.{Parts.all_place_count, Searching.HasSets, Searching.IsRight};
 
 use crate::letters::list_letters;
 use crate::meeting::are_met;

@@ -1,8 +1,7 @@
 //! The states of a search: sets of places, each with a text that leads to them.
 
 ghost use Rattle.std.specs.Prelude.{◌≡◌, ◌+◌, ◌++◌, ◌<◌, ◌∷◌, List, [], IfNone, IfOk, IfSome, OnOk, length, slice_index_or, string_bytes};
-ghost use Rattle.std.specs.List.{All};
-ghost use Rattle.std.specs.Str.{chars};
+ghost use Rattle.std.specs.{List.All, Str.chars};
 ghost use Rattle.filterset_texts.specs.Places.{BeginsAnew, IsAdmittedAt, row_of};
 ghost use Rattle.filterset_texts.specs.Searching.{AreSeen, AreStates, HasNext, LeadsOn};
 

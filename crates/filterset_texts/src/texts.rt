@@ -1,9 +1,7 @@
 //! The sequences of texts that matchers compare with.
 ghost use Rattle.std.specs.Prelude.{◌≡◌, ◌∷◌, [], length, IfOk, OnOk};
-ghost use Rattle.std.specs.Str.{chars};
-ghost use Rattle.std.specs.Str.Iter.{HasSubslice};
-ghost use Rattle.filterset_texts.specs.Cuts.{HoldInTurn, HoldTogether};
-ghost use Rattle.filterset_texts.specs.Parts.{Fits, FitsSome};
+ghost use Rattle.std.specs.Str.{chars, Iter.HasSubslice};
+ghost use Rattle.filterset_texts.specs.{Cuts.HoldInTurn, Cuts.HoldTogether, Parts.Fits, Parts.FitsSome};
 
 use crate::part::Part;
 use crate::tokens::make_literal;

@@ -1,7 +1,6 @@
 //! The sequences of a glob's tokens.
 ghost use Rattle.std.specs.Prelude.{◌≡◌, ◌≢◌, ◌≤◌, [], ◌∷◌, length, IfOk};
-ghost use Rattle.std.specs.declared.vec.Vec.{Vec};
-ghost use Rattle.std.specs.declared.alloc.Global.{Global};
+ghost use Rattle.std.specs.declared.{vec.Vec.Vec, alloc.Global.Global};
 ghost use Rattle.filterset_glob.specs.Matching.{Matches, MatchesSome, MatchesToken};
 ghost use Rattle.filterset_glob.specs.Tokens.{branches_of, token_of, tokens_of};
 ghost use Rattle.filterset_glob.specs.declared.token.GlobBranch.{GlobBranch};

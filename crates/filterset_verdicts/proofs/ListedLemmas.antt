@@ -1,11 +1,8 @@
 -- The names of known groups.
 use Rattle.std.proofs.Common.{◌≡◌, ◌∙◌, ◌↔◌, ◌⊎◌, Bor, Global, List, String, ◌∷◌, ap, inl, inr, map, string_bytes, subst, sym, ⊎_elim}
-use Rattle.std.specs.List.{Contains}
-use Rattle.std.specs.List.Sorted.{IsPermutation}
-use Rattle.std.specs.Prelude.{codes}
+use Rattle.std.specs.{List.Contains, List.Sorted.IsPermutation, Prelude.codes}
 use Rattle.std.proofs.lemmas.List.Sorted.{Contains-permutation, IsPermutation-sym}
-use Rattle.filterset_deciding.proofs.Doubts.{contains_first, contains_later}
-use Rattle.filterset_deciding.proofs.Rules.{contains_cases}
+use Rattle.filterset_deciding.proofs.{Doubts.contains_first, Doubts.contains_later, Rules.contains_cases}
 use Rattle.filterset_drawing.specs.Columns.{Text}
 use Rattle.nextest_filtering.proofs.Members.{from_mapped, mapped}
 

@@ -1,15 +1,12 @@
 -- What is chosen for a name, as an outcome; and which of the texts an iteration has.
 use Rattle.std.proofs.Common.{◌≡◌, ◌∙◌, ◌<◌, ℕ, List, None, Option, Some, ap, get_or, length, map, subst, sym}
-use Rattle.std.specs.Prelude.{IsSomeAnd, MatchOption}
-use Rattle.std.specs.List.{Contains}
+use Rattle.std.specs.{Prelude.IsSomeAnd, Prelude.MatchOption, List.Contains}
 use Rattle.std.proofs.lemmas.List.{get_or-map, length-map}
-use Rattle.filterset_entries.specs.Checked.{TextRow}
-use Rattle.filterset_entries.specs.declared.entries.ConfiguredTexts.{ConfiguredTexts}
+use Rattle.filterset_entries.specs.{Checked.TextRow, declared.entries.ConfiguredTexts.ConfiguredTexts}
 use Rattle.filterset_configuration.specs.declared.defaults.DefaultFilter.{DefaultFilter}
 use Rattle.filterset_loading.specs.Configurations.{IsChosen, chosen}
+use Rattle.filterset_loading.specs.declared.profile.ChosenFilter.{ChosenFilter, TheVariants.Entry, TheVariants.Unknown}
 use Rattle.filterset_verdicts.specs.Deciding.{IsDefaultKind, outcome_of}
-use Rattle.filterset_loading.specs.declared.profile.ChosenFilter.{ChosenFilter}
-use Rattle.filterset_loading.specs.declared.profile.ChosenFilter.TheVariants.{Entry, Unknown}
 
 pub chosen_outcome : (texts : ConfiguredTexts) (given : Option TextRow) (filter : DefaultFilter) (found : ChosenFilter)
     → IsChosen texts given filter found → chosen texts given filter ≡ outcome_of found

@@ -4,8 +4,7 @@ use Rattle.std.specs.List.{AllZip}
 use Rattle.filterset_answers.specs.Picking.{compiled_of, parsed_of}
 use Rattle.filterset_drawing.specs.Columns.{Text}
 use Rattle.filterset_expression.specs.Meaning.{IsCompiled}
-use Rattle.filterset_expression.specs.declared.expression.CompiledExpr.{CompiledExpr}
-use Rattle.filterset_expression.specs.declared.query.TestQuery.{TestQuery}
+use Rattle.filterset_expression.specs.declared.{expression.CompiledExpr.CompiledExpr, query.TestQuery.TestQuery}
 use Rattle.filterset_graph.specs.declared.package.PackageMetadata.{PackageMetadata}
 use Rattle.nextest_filtering.specs.declared.filterset.Filterset.{Filterset}
 use Rattle.filterset_verdicts.specs.Reasons.{IsReason, IsReasonOf}

@@ -1,22 +1,16 @@
 -- Verdicts, and lists of filtersets.
 use Rattle.std.proofs.Common.{◌≡◌, ◌⊎◌, ◌<◌, ◌+◌, ◌-◌, ◌*◌, ◌^◌, ℕ, take, arith, ap, drop, get_or, length, refl, List, [], ◌∷◌}
-use Rattle.std.specs.Borrow.{Bor}
 use Rattle.std.proofs.lemmas.List.{take_all}
-use Rattle.std.specs.List.{AllZip}
-use Rattle.filterset_entries.specs.Checked.{TextRow}
-use Rattle.filterset_entries.specs.Checked.{IsFiltersetFor}
+use Rattle.std.specs.{Borrow.Bor, List.AllZip}
+use Rattle.filterset_entries.specs.Checked.{TextRow, IsFiltersetFor}
 use Rattle.filterset_deciding.specs.Deciding.{IsAlwaysMet, IsUnmetAt, leaves_asked, steps_asked}
-use Rattle.filterset_deciding.specs.declared.deciding.Verdict.{Verdict}
-use Rattle.filterset_deciding.specs.declared.deciding.Verdict.TheVariants as verdicts
-use Rattle.filterset_deciding.specs.Demands.{HasUncompared, IsDoubtAbout}
+use Rattle.filterset_deciding.specs.{declared.deciding.Verdict.Verdict, Demands.HasUncompared, Demands.IsDoubtAbout}
 use Rattle.filterset_deciding.specs.Texts.{AreComparisons, HasUnsearched}
-use Rattle.filterset_deciding.specs.declared.demand.Doubt.{Doubt}
-use Rattle.filterset_deciding.specs.declared.question.Question.{Question}
-use Rattle.filterset_deciding.specs.declared.witness.Witness.{Witness}
+use Rattle.filterset_deciding.specs.declared.{demand.Doubt.Doubt, question.Question.Question, witness.Witness.Witness}
+use Rattle.filterset_deciding.specs.declared.deciding.Verdict.TheVariants as verdicts
 use Rattle.filterset_expression.specs.declared.expression.CompiledExpr.{CompiledExpr}
 use Rattle.filterset_graph.specs.declared.package.PackageMetadata.{PackageMetadata}
-use Rattle.nextest_filtering.specs.declared.compile.context.KnownGroups.{KnownGroups}
-use Rattle.nextest_filtering.specs.declared.filterset.Filterset.{Filterset}
+use Rattle.nextest_filtering.specs.declared.{compile.context.KnownGroups.KnownGroups, filterset.Filterset.Filterset}
 use Rattle.filterset_verdicts.specs.Verdicts.{IsRight}
 
 -- the verdict is right, whatever it is

@@ -1,13 +1,9 @@
 -- The values of verdicts have no floats, so they are written compactly.
 use Rattle.std.proofs.Common.{◌≡◌, ◌∙◌, ℕ, Bool, false, List, [], ◌∷◌, ap, map, refl}
-use Rattle.serde_json.specs.Data.{Data}
-use Rattle.serde_json.specs.View.{items_of}
-use Rattle.serde_json.specs.Written.{has_float, items_have_float}
-use Rattle.filterset_deciding.specs.declared.deciding.Verdict.{Verdict}
+use Rattle.serde_json.specs.{Data.Data, View.items_of, Written.has_float, Written.items_have_float}
+use Rattle.filterset_deciding.specs.declared.{deciding.Verdict.Verdict, demand.Demand.Demand}
+use Rattle.filterset_deciding.specs.declared.{demand.TestField.TestField, question.Question.Question}
 use Rattle.filterset_deciding.specs.declared.deciding.Verdict.TheVariants as verdicts
-use Rattle.filterset_deciding.specs.declared.demand.Demand.{Demand}
-use Rattle.filterset_deciding.specs.declared.demand.TestField.{TestField}
-use Rattle.filterset_deciding.specs.declared.question.Question.{Question}
 use Rattle.filterset_graph.specs.declared.package.PackageMetadata.{PackageMetadata}
 use Rattle.filterset_verdicts.specs.VerdictJson.{IsVerdictData, demand_item, number_item, picked_numbers}
 

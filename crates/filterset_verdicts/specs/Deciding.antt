@@ -1,44 +1,32 @@
 -- What `same`, `cover`, `disjoint` and `partition` answer.
 use Rattle.std.specs.Prelude.{◌≡◌, ◌≢◌, ◌⊎◌, ◌++◌, List, [], ◌∷◌, Option, Some, None, Result, Ok, Err, Contains, IfSome, IsSomeAnd, MatchOption, codes, flat_map, map, string_bytes, unwrap_or}
-use Rattle.std.specs.Borrow.{Bor}
-use Rattle.std.specs.List.{AllZip}
-use Rattle.std.specs.declared.io.Error.{Error}
+use Rattle.std.specs.{Borrow.Bor, List.AllZip, declared.io.Error.Error}
 use Rattle.serde_json.specs.Data.{Data}
-use Rattle.filterset_entries.specs.Checked.{TextRow, text_row}
-use Rattle.filterset_entries.specs.Endings.{AnswersUnknown}
+use Rattle.filterset_entries.specs.{Checked.TextRow, Checked.text_row, Endings.AnswersUnknown}
 use Rattle.filterset_entries.specs.Entries.{default_row, numbered_rows, test_row}
-use Rattle.filterset_entries.specs.declared.entries.ConfiguredTexts.{ConfiguredTexts}
-use Rattle.filterset_entries.specs.declared.setting.Setting.{Setting}
+use Rattle.filterset_entries.specs.declared.{entries.ConfiguredTexts.ConfiguredTexts, setting.Setting.Setting}
 use Rattle.filterset_entries.specs.declared.text.Ending.{Ending}
 use Rattle.filterset_drawing.specs.Columns.{Text}
 use Rattle.filterset_faults.specs.declared.kind.FiltersetKind.TheVariants as kinds
 use Rattle.filterset_graph.specs.declared.package.PackageMetadata.{PackageMetadata}
-use Rattle.filterset_configuration.specs.PlatformTrees.{facts_of}
-use Rattle.filterset_configuration.specs.Lineages.{Lineage}
+use Rattle.filterset_configuration.specs.{PlatformTrees.facts_of, Lineages.Lineage}
 use Rattle.filterset_configuration.specs.Ranking.{IsDefaultFilter, IsRanked, placed}
-use Rattle.filterset_configuration.specs.declared.defaults.DefaultFilter.{DefaultFilter}
-use Rattle.filterset_configuration.specs.declared.profiles.Profile.{Profile}
+use Rattle.filterset_configuration.specs.declared.{defaults.DefaultFilter.DefaultFilter, profiles.Profile.Profile}
 use Rattle.filterset_configuration.specs.declared.ranking.RankedOverride.{RankedOverride}
-use Rattle.filterset_sources.specs.Metadata.{RefusesMetadata}
-use Rattle.filterset_sources.specs.Platforms.{ArePlatforms}
-use Rattle.filterset_sources.specs.declared.list.Suite.{Suite}
-use Rattle.filterset_sources.specs.declared.platforms.BuildPlatforms.{BuildPlatforms}
-use Rattle.nextest_filtering.specs.Groups.{IsGlobalOnly}
-use Rattle.nextest_filtering.specs.declared.compile.context.KnownGroups.{KnownGroups}
+use Rattle.filterset_sources.specs.{Metadata.RefusesMetadata, Platforms.ArePlatforms}
+use Rattle.filterset_sources.specs.declared.{list.Suite.Suite, platforms.BuildPlatforms.BuildPlatforms}
+use Rattle.nextest_filtering.specs.{Groups.IsGlobalOnly, declared.compile.context.KnownGroups.KnownGroups}
 use Rattle.filterset_verdicts.specs.Verdicts.{AnswersQuestion, question_rows}
 use Rattle.filterset_verdicts.specs.declared.answering.TextQuestion.{TextQuestion}
+use Rattle.filterset_verdicts.specs.declared.naming.ResolvedEntries.{ResolvedEntries}
 use Rattle.filterset_loading.specs.Configurations.{chosen, given_row, AreKnown, AreProfilesIn, AreTextsOf, IsSettingsFault, LacksName, LacksProfile, RefusesFile}
 use Rattle.filterset_loading.specs.Workspaces.{KnownPackages, IsListIn, IsPlatformsFault, RefusesList, RefusesValue}
 use Rattle.filterset_loading.specs.Files.{IsFileFault, name_of}
-use Rattle.filterset_loading.specs.declared.request.DecisionRequest.{DecisionRequest}
-use Rattle.filterset_loading.specs.declared.fault.CommandFault.{CommandFault}
+use Rattle.filterset_loading.specs.declared.{request.DecisionRequest.DecisionRequest, fault.CommandFault.CommandFault}
+use Rattle.filterset_loading.specs.declared.profile.{KnownPlatforms.KnownPlatforms, ProfileRequest.ProfileRequest}
+use Rattle.filterset_loading.specs.declared.profile.{ProfilesFile.ProfilesFile, ChosenFilter.ChosenFilter}
 use Rattle.filterset_loading.specs.declared.fault.FileRole.TheVariants as roles
-use Rattle.filterset_verdicts.specs.declared.naming.ResolvedEntries.{ResolvedEntries}
 use Rattle.filterset_verdicts.specs.declared.naming.ResolvedEntries.TheVariants as entries
-use Rattle.filterset_loading.specs.declared.profile.KnownPlatforms.{KnownPlatforms}
-use Rattle.filterset_loading.specs.declared.profile.ProfileRequest.{ProfileRequest}
-use Rattle.filterset_loading.specs.declared.profile.ProfilesFile.{ProfilesFile}
-use Rattle.filterset_loading.specs.declared.profile.ChosenFilter.{ChosenFilter}
 use Rattle.filterset_loading.specs.declared.profile.ChosenFilter.TheVariants as chosens
 
 -- ---- the texts of a request

@@ -1,11 +1,9 @@
 -- The tests that nextest lists.
-use Rattle.std.specs.Prelude.{◌≡◌, List, [], map, string_bytes}
-use Rattle.std.specs.List.{flat_map}
+use Rattle.std.specs.{Prelude.◌≡◌, Prelude.List, Prelude.[], Prelude.map, Prelude.string_bytes, List.flat_map}
 use Rattle.filterset_drawing.specs.Columns.{Text}
 use Rattle.filterset_expression.specs.declared.query.TestQuery.{TestQuery}
 use Rattle.filterset_graph.specs.declared.package.BuildPlatform.{BuildPlatform}
-use Rattle.filterset_sources.specs.declared.list.Suite.{Suite}
-use Rattle.filterset_sources.specs.declared.list.SuiteStatus.{SuiteStatus}
+use Rattle.filterset_sources.specs.declared.list.{Suite.Suite, SuiteStatus.SuiteStatus}
 use Rattle.filterset_sources.specs.declared.list.SuiteStatus.TheVariants.{Listed, Skipped}
 
 -- the package, id, name, kind and platform of the binary that contains a test, and the test's name

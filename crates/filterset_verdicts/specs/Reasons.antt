@@ -1,22 +1,17 @@
 -- Why filtersets pick a test or not.
 use Rattle.std.specs.Prelude.{◌≡◌, ◌+◌, ◌++◌, ℕ, true, List, [], ◌∷◌, Some, None, codes, decimal, string_bytes}
-use Rattle.std.specs.List.{AllZip, flat_map}
-use Rattle.std.specs.Str.Lines.{lines}
+use Rattle.std.specs.{List.AllZip, List.flat_map, Str.Lines.lines}
 use Rattle.filterset_answers.specs.Picking.{compiled_of, parsed_of}
 use Rattle.filterset_deciding.specs.Deciding.{IsAbout}
-use Rattle.filterset_deciding.specs.declared.deciding.Verdict.{Verdict}
-use Rattle.filterset_deciding.specs.declared.deciding.Verdict.TheVariants.{Fails}
+use Rattle.filterset_deciding.specs.declared.deciding.Verdict.{Verdict, TheVariants.Fails}
 use Rattle.filterset_drawing.specs.Columns.{Text}
 use Rattle.filterset_expression.specs.Meaning.{IsCompiled}
-use Rattle.filterset_expression.specs.declared.expression.CompiledExpr.{CompiledExpr}
-use Rattle.filterset_expression.specs.declared.query.TestQuery.{TestQuery}
+use Rattle.filterset_expression.specs.declared.{expression.CompiledExpr.CompiledExpr, query.TestQuery.TestQuery}
 use Rattle.filterset_faults.specs.declared.span.SourceSpan.{SourceSpan}
 use Rattle.filterset_grammar.specs.Tree.{Tree}
 use Rattle.filterset_graph.specs.declared.package.PackageMetadata.{PackageMetadata}
-use Rattle.filterset_listing.specs.Explaining.{IsExplanation}
-use Rattle.filterset_listing.specs.ExplanationText.{explanation_text}
-use Rattle.filterset_listing.specs.declared.explaining.Explanation.{Explanation}
-use Rattle.filterset_listing.specs.declared.explaining.candidate.Candidate.TheVariants.{Test}
+use Rattle.filterset_listing.specs.{Explaining.IsExplanation, ExplanationText.explanation_text}
+use Rattle.filterset_listing.specs.declared.explaining.{Explanation.Explanation, candidate.Candidate.TheVariants.Test}
 use Rattle.filterset_listing.specs.declared.groups.GroupOverride.{GroupOverride}
 use Rattle.nextest_filtering.specs.declared.filterset.Filterset.{Filterset}
 

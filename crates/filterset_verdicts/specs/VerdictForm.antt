@@ -1,19 +1,14 @@
 -- Verdicts in the form that is asked for.
 use Rattle.std.specs.Prelude.{◌≡◌, ◌++◌, Bool, List, codes}
-use Rattle.serde_json.specs.Data.{Data}
-use Rattle.serde_json.specs.Written.{compact_text}
-use Rattle.filterset_entries.specs.declared.form.Form.{Form}
-use Rattle.filterset_entries.specs.declared.form.Form.TheVariants.{Json}
-use Rattle.filterset_deciding.specs.declared.deciding.Verdict.{Verdict}
-use Rattle.filterset_deciding.specs.declared.question.Question.{Question}
+use Rattle.serde_json.specs.{Data.Data, Written.compact_text}
+use Rattle.filterset_entries.specs.declared.form.Form.{Form, TheVariants.Json}
+use Rattle.filterset_deciding.specs.declared.{deciding.Verdict.Verdict, question.Question.Question}
 use Rattle.filterset_drawing.specs.Columns.{Text}
 use Rattle.filterset_expression.specs.declared.expression.CompiledExpr.{CompiledExpr}
 use Rattle.filterset_faults.specs.declared.span.SourceSpan.{SourceSpan}
 use Rattle.filterset_grammar.specs.Tree.{Tree}
 use Rattle.filterset_graph.specs.declared.package.PackageMetadata.{PackageMetadata}
-use Rattle.filterset_verdicts.specs.Reasons.{AreReasons}
-use Rattle.filterset_verdicts.specs.VerdictJson.{IsVerdictData}
-use Rattle.filterset_verdicts.specs.VerdictText.{IsVerdictText}
+use Rattle.filterset_verdicts.specs.{Reasons.AreReasons, VerdictJson.IsVerdictData, VerdictText.IsVerdictText}
 
 -- a JSON object in a line, or lines for people
 abbrev pub IsVerdictIn : Form → Question → Bool → List PackageMetadata → Verdict → Text → Type 0

@@ -3,15 +3,11 @@ use Rattle.std.specs.Prelude.{◌≡◌, ◌+◌, ℕ, Bool, true, false, List, 
 use Rattle.serde_json.specs.Data.{Data, array, boolean, member, no_members, null, number, object, string, unsigned}
 use Rattle.serde_json.specs.View.{items_of}
 use Rattle.filterset_deciding.specs.declared.deciding.Verdict.{Verdict}
+use Rattle.filterset_deciding.specs.declared.demand.{Demand.Demand, Doubt.Doubt, TestField.TestField}
+use Rattle.filterset_deciding.specs.declared.{question.Question.Question, witness.PossibleTest.PossibleTest}
 use Rattle.filterset_deciding.specs.declared.deciding.Verdict.TheVariants as verdicts
-use Rattle.filterset_deciding.specs.declared.demand.Demand.{Demand}
-use Rattle.filterset_deciding.specs.declared.demand.Doubt.{Doubt}
-use Rattle.filterset_deciding.specs.declared.demand.TestField.{TestField}
-use Rattle.filterset_deciding.specs.declared.question.Question.{Question}
-use Rattle.filterset_deciding.specs.declared.witness.PossibleTest.{PossibleTest}
 use Rattle.filterset_drawing.specs.Columns.{Text}
-use Rattle.filterset_graph.specs.Platforms.{platform_text}
-use Rattle.filterset_graph.specs.declared.package.PackageMetadata.{PackageMetadata}
+use Rattle.filterset_graph.specs.{Platforms.platform_text, declared.package.PackageMetadata.PackageMetadata}
 use Rattle.filterset_loading.specs.Words.{decision_name}
 use Rattle.filterset_verdicts.specs.VerdictText.{IsPackageText, demand_text}
 

@@ -3,22 +3,16 @@ use Rattle.std.specs.Prelude.{◌≡◌, ◌⊎◌, ◌==◌, ◌+◌, ◌++◌,
 use Rattle.std.specs.List.{count_by, flat_map}
 use Rattle.filterset_entries.specs.declared.text.Ending.{Ending}
 use Rattle.filterset_entries.specs.declared.text.Ending.TheVariants.{Fine, Differing, Unknown}
-use Rattle.filterset_deciding.specs.declared.deciding.Verdict.{Verdict}
-use Rattle.filterset_deciding.specs.declared.deciding.Verdict.TheVariants as verdicts
-use Rattle.filterset_deciding.specs.declared.demand.Demand.{Demand}
-use Rattle.filterset_deciding.specs.declared.demand.Doubt.{Doubt}
-use Rattle.filterset_deciding.specs.declared.demand.TestField.{TestField}
-use Rattle.filterset_deciding.specs.declared.demand.TestField.TheVariants as fields
-use Rattle.filterset_deciding.specs.declared.question.Question.{Question}
+use Rattle.filterset_deciding.specs.declared.{deciding.Verdict.Verdict, demand.Demand.Demand, demand.Doubt.Doubt}
+use Rattle.filterset_deciding.specs.declared.{demand.TestField.TestField, question.Question.Question}
 use Rattle.filterset_deciding.specs.declared.question.Question.TheVariants.{AllAlike, AtLeastOne, AtMostOne, ExactlyOne}
-use Rattle.filterset_deciding.specs.declared.witness.PossibleTest.{PossibleTest}
-use Rattle.filterset_deciding.specs.declared.witness.Witness.{Witness}
+use Rattle.filterset_deciding.specs.declared.witness.{PossibleTest.PossibleTest, Witness.Witness}
+use Rattle.filterset_deciding.specs.declared.deciding.Verdict.TheVariants as verdicts
+use Rattle.filterset_deciding.specs.declared.demand.TestField.TheVariants as fields
 use Rattle.filterset_drawing.specs.Columns.{Text}
-use Rattle.filterset_graph.specs.Packages.{ids}
-use Rattle.filterset_graph.specs.Platforms.{platform_text}
+use Rattle.filterset_graph.specs.{Packages.ids, Platforms.platform_text}
 use Rattle.filterset_graph.specs.declared.package.PackageMetadata.{PackageMetadata}
-use Rattle.filterset_matchers.specs.Matchers.{matcher_of}
-use Rattle.filterset_matchers.specs.PrintedMatcher.{printed_matcher}
+use Rattle.filterset_matchers.specs.{Matchers.matcher_of, PrintedMatcher.printed_matcher}
 
 -- the answer is always yes
 abbrev pub held_text : Question → Text

@@ -1,30 +1,21 @@
 -- What questions about filtersets and every possible test are answered.
 use Rattle.std.specs.Prelude.{◌≡◌, ◌↔◌, ◌⊎◌, ◌<◌, ◌+◌, ◌*◌, ◌^◌, ℕ, [], ◌∷◌, true, false, Contains, List, MatchOption, Option, length, map}
-use Rattle.std.specs.Borrow.{Bor}
-use Rattle.std.specs.List.{AllZip}
+use Rattle.std.specs.{Borrow.Bor, List.AllZip}
 use Rattle.filterset_entries.specs.Checked.{TextRow, text_row}
+use Rattle.filterset_entries.specs.declared.{form.Form.Form, setting.Setting.Setting}
+use Rattle.filterset_entries.specs.declared.text.Ending.{Ending, TheVariants.Differing}
 use Rattle.filterset_answers.specs.Compiled.{AnswersTexts, Telling}
-use Rattle.filterset_entries.specs.declared.form.Form.{Form}
-use Rattle.filterset_entries.specs.declared.setting.Setting.{Setting}
-use Rattle.filterset_entries.specs.declared.text.Ending.{Ending}
-use Rattle.filterset_entries.specs.declared.text.Ending.TheVariants.{Differing}
 use Rattle.filterset_deciding.specs.Deciding.{IsAlwaysMet, IsUnmetAt, leaves_asked, steps_asked}
 use Rattle.filterset_deciding.specs.Demands.{HasUncompared, IsDoubtAbout}
 use Rattle.filterset_deciding.specs.Listed.{IsFirstUnmet, IsMetByAll}
-use Rattle.filterset_deciding.specs.Texts.{AreComparisons, HasUnsearched}
-use Rattle.filterset_deciding.specs.declared.deciding.Verdict.{Verdict}
+use Rattle.filterset_deciding.specs.{Texts.AreComparisons, Texts.HasUnsearched, declared.deciding.Verdict.Verdict}
+use Rattle.filterset_deciding.specs.declared.{question.Question.Question, witness.Witness.Witness}
 use Rattle.filterset_deciding.specs.declared.deciding.Verdict.TheVariants as verdicts
-use Rattle.filterset_deciding.specs.declared.question.Question.{Question}
-use Rattle.filterset_deciding.specs.declared.witness.Witness.{Witness}
 use Rattle.filterset_drawing.specs.Columns.{Text}
 use Rattle.filterset_expression.specs.Meaning.{IsCompiled}
-use Rattle.filterset_expression.specs.declared.expression.CompiledExpr.{CompiledExpr}
-use Rattle.filterset_expression.specs.declared.query.TestQuery.{TestQuery}
-use Rattle.nextest_filtering.specs.Groups.{IsGroupName}
-use Rattle.nextest_filtering.specs.declared.compile.context.KnownGroups.{KnownGroups}
-use Rattle.filterset_verdicts.specs.ListedTests.{AreTestsOf}
-use Rattle.filterset_verdicts.specs.VerdictForm.{IsExplainedIn}
-use Rattle.filterset_verdicts.specs.VerdictText.{ending_of}
+use Rattle.filterset_expression.specs.declared.{expression.CompiledExpr.CompiledExpr, query.TestQuery.TestQuery}
+use Rattle.nextest_filtering.specs.{Groups.IsGroupName, declared.compile.context.KnownGroups.KnownGroups}
+use Rattle.filterset_verdicts.specs.{ListedTests.AreTestsOf, VerdictForm.IsExplainedIn, VerdictText.ending_of}
 use Rattle.filterset_verdicts.specs.declared.answering.TextQuestion.{TextQuestion}
 
 -- The verdict about the filtersets with these expressions is right. It is unknown only if the answer depends on demands of their

@@ -1,17 +1,13 @@
 //! Answers to questions about filtersets that are given as texts.
 ghost use Rattle.std.specs.Prelude.{◌≡◌, ◌<◌, [], IfOk, List, length, map, string_bytes};
 ghost use Rattle.std.specs.List.{AllZip};
-ghost use Rattle.filterset_answers.specs.Compiled.{Basis};
-ghost use Rattle.filterset_answers.specs.Picking.{compiled_of, parsed_of};
+ghost use Rattle.filterset_answers.specs.{Compiled.Basis, Picking.compiled_of, Picking.parsed_of};
 ghost use Rattle.filterset_entries.specs.declared.setting.Setting as settings;
-ghost use Rattle.filterset_expression.specs.Contexts.{default_of};
-ghost use Rattle.filterset_expression.specs.Meaning.{IsCompiled};
+ghost use Rattle.filterset_expression.specs.{Contexts.default_of, Meaning.IsCompiled};
 ghost use Rattle.filterset_expression.specs.declared.query.TestQuery.{TestQuery};
 ghost use Rattle.filterset_faults.specs.declared.kind.FiltersetKind.TheVariants as kinds;
 ghost use Rattle.nextest_filtering.specs.Groups.{IsKnown};
-ghost use Rattle.filterset_verdicts.specs.ListedTests.{AreTestsOf};
-ghost use Rattle.filterset_verdicts.specs.VerdictForm.{IsExplainedIn};
-ghost use Rattle.filterset_verdicts.specs.VerdictText.{ending_of};
+ghost use Rattle.filterset_verdicts.specs.{ListedTests.AreTestsOf, VerdictForm.IsExplainedIn, VerdictText.ending_of};
 ghost use Rattle.filterset_verdicts.specs.Verdicts.{AnswersQuestion, Decides, IsShown};
 
 use crate::listed::{group_names, listed_tests};

@@ -1,16 +1,13 @@
 //! The commands `same`, `cover`, `disjoint` and `partition`: questions about filtersets and every possible test.
 ghost use Rattle.std.specs.Prelude.{◌≡◌, ◌<◌, [], IfErr, IfOk, IfSome, IsSomeAnd, codes, length, map, string_bytes, unwrap_or};
 ghost use Rattle.serde_json.specs.View.{view};
-ghost use Rattle.filterset_entries.specs.Checked.{text_row};
-ghost use Rattle.filterset_entries.specs.Entries.{default_row};
+ghost use Rattle.filterset_entries.specs.{Checked.text_row, Entries.default_row};
 ghost use Rattle.filterset_faults.specs.declared.kind.FiltersetKind.TheVariants as kinds;
 ghost use Rattle.filterset_sources.specs.Platforms.{ArePlatforms};
 ghost use Rattle.nextest_filtering.specs.Groups.{IsGlobalOnly, IsKnown};
 ghost use Rattle.nextest_filtering.specs.declared.compile.context.KnownGroups as contexts;
-ghost use Rattle.filterset_loading.specs.Configurations.{given_row};
+ghost use Rattle.filterset_loading.specs.{Configurations.given_row, Files.OrMemory, Workspaces.IsPlatformsFault};
 ghost use Rattle.filterset_verdicts.specs.Deciding.{AnswersDecision, AnswersKnown, AnswersListed, AnswersNamed, AnswersProfiles, AnswersRows, IsDecisionFault, IsDefaultKind, IsDefaultRow, IsListedFault, IsNamedFault, LacksNamed, naming_of, nowhere, outcome_of, request_rows, within_of};
-ghost use Rattle.filterset_loading.specs.Files.{OrMemory};
-ghost use Rattle.filterset_loading.specs.Workspaces.{IsPlatformsFault};
 
 use crate::answering::{TextQuestion, answer_texts};
 use crate::naming::{ResolvedEntries, filter_of, resolve, resolve_entries};

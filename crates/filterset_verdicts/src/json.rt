@@ -1,8 +1,6 @@
 //! Verdicts as JSON.
 ghost use Rattle.std.specs.Prelude.{◌≡◌, ◌++◌, IfOk, codes, false, map, string_bytes};
-ghost use Rattle.serde_json.specs.Data.{Data, null};
-ghost use Rattle.serde_json.specs.View.{view};
-ghost use Rattle.serde_json.specs.Written.{compact_text};
+ghost use Rattle.serde_json.specs.{Data.Data, Data.null, View.view, Written.compact_text};
 ghost use Rattle.filterset_loading.specs.Words.{decision_name};
 ghost use Rattle.filterset_verdicts.specs.VerdictJson.{IsVerdictData, demand_item, number_item, picked_numbers, test_data};
 

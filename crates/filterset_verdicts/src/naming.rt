@@ -4,8 +4,7 @@ ghost use Rattle.filterset_entries.specs.Checked.{text_row};
 ghost use Rattle.filterset_drawing.specs.Columns.{Text};
 ghost use Rattle.filterset_faults.specs.declared.kind.FiltersetKind.TheVariants as kinds;
 ghost use Rattle.filterset_verdicts.specs.Deciding.{AreResolved, IsDefaultKind, IsFilterOf, LacksAny, LacksOwn, ResolvesTo, naming_of, outcome_of};
-ghost use Rattle.filterset_loading.specs.Configurations.{LacksName};
-ghost use Rattle.filterset_loading.specs.Files.{OrMemory};
+ghost use Rattle.filterset_loading.specs.{Configurations.LacksName, Files.OrMemory};
 
 use filterset_configuration::{Profile, default_filter, rank_overrides};
 use filterset_entries::{ConfiguredTexts, TextEntry};

@@ -1,9 +1,8 @@
 //! Verdicts as text.
-ghost use Rattle.std.specs.Prelude.{◌≡◌, ◌++◌, IfOk, OnOk, string_bytes};
+ghost use Rattle.std.specs.{Prelude.◌≡◌, Prelude.◌++◌, Prelude.IfOk, Prelude.OnOk, Prelude.string_bytes, List.flat_map};
 ghost use Rattle.filterset_graph.specs.Platforms.{platform_text};
 ghost use Rattle.filterset_verdicts.specs.VerdictForm.{IsVerdictIn};
 ghost use Rattle.filterset_verdicts.specs.VerdictText.{IsPackageText, IsVerdictText, IsWitnessText, demand_text, doubt_text, ending_of, failed_text, field_line, field_word, held_text, open_text, origin_line, picked_line, picked_text, test_text};
-ghost use Rattle.std.specs.List.{flat_map};
 
 use crate::json::verdict_line;
 use filterset_deciding::{Demand, Doubt, PossibleTest, Question, TestField, Verdict, Witness};

@@ -1,24 +1,21 @@
 -- Trees with banned predicates, and without.
 use Rattle.std.proofs.Common.{◌≡◌, ◌≢◌, false, List, [], ◌∷◌, refl}
 use Rattle.std.specs.Prelude.{All, Option, None, Some, option_map}
-use Rattle.std.specs.List.{filter, filter_map}
-use Rattle.std.specs.Option.{is_some, option_and_then}
+use Rattle.std.specs.{List.filter, List.filter_map, Option.is_some, Option.option_and_then}
 use Rattle.std.proofs.lemmas.List.Elements.{All-nil, All-cons, All-head, All-tail, All-weaker}
 use Rattle.std.proofs.lemmas.List.Folds.{list_any_none}
-use Rattle.filterset_faults.specs.declared.error.ParseSingleError.{ParseSingleError}
-use Rattle.filterset_faults.specs.declared.error.ParseSingleError.TheVariants.{BannedPredicate}
+use Rattle.filterset_faults.specs.declared.error.ParseSingleError.{ParseSingleError, TheVariants.BannedPredicate}
 use Rattle.filterset_faults.specs.declared.kind.BannedPredicateReason.{BannedPredicateReason}
-use Rattle.filterset_faults.specs.declared.kind.FiltersetKind.{FiltersetKind}
+use Rattle.filterset_faults.specs.declared.{kind.FiltersetKind.FiltersetKind, span.SourceSpan.SourceSpan}
 use Rattle.filterset_faults.specs.declared.kind.FiltersetKind.TheVariants as kinds
-use Rattle.filterset_faults.specs.declared.span.SourceSpan.{SourceSpan}
 use Rattle.filterset_grammar.specs.Bans.{ban_reason}
-use Rattle.filterset_grammar.specs.Tree as tree
 use Rattle.filterset_grammar.specs.Tree.{Leaf, Tree, Matching, Platform, Default, leaf_without_span, tree_leaves}
 use Rattle.filterset_grammar.specs.declared.predicate.Predicate.TheVariants.{Package, Deps, Rdeps, Kind, Binary, BinaryId, Test, Group}
+use Rattle.filterset_grammar.specs.Tree as tree
 use Rattle.filterset_language.specs.Faults.{leaf_span}
 use Rattle.nextest_filtering.specs.Bans.{banned, is_banned, ban, bans, IsAllowed}
-use Rattle.filterset_expression.specs.Meaning.{has_tree_leaf, is_default_predicate, is_group_predicate}
 use Rattle.nextest_filtering.proofs.Filtered.{filtered_first}
+use Rattle.filterset_expression.specs.Meaning.{has_tree_leaf, is_default_predicate, is_group_predicate}
 
 abbrev pair : SourceSpan → BannedPredicateReason → SourceSpan × BannedPredicateReason
 pair s reason = (s, reason)

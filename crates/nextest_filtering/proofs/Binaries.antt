@@ -1,17 +1,15 @@
 -- The test binaries of a workspace as they are kept, and as they are told by the targets of its packages.
 use Rattle.std.proofs.Common.{◌≡◌, ◌≢◌, ℕ, List, map, refl, sym, ap, subst, ◌∙◌}
 use Rattle.std.specs.Prelude.{All, Contains, Option, Some, None, option_map, string_bytes}
+use Rattle.std.proofs.lemmas.List.Elements.{All-contains}
 use Rattle.filterset_graph.specs.Binaries.{kind_of, written_id, IsWorkspaceTarget, IsBinaryName, IsBinaryId}
-use Rattle.filterset_graph.specs.declared.package.BuildTarget.{BuildTarget}
-use Rattle.filterset_graph.specs.declared.package.BuildTargetId.{BuildTargetId}
+use Rattle.filterset_graph.specs.declared.package.{BuildTarget.BuildTarget, BuildTargetId.BuildTargetId}
 use Rattle.filterset_graph.specs.declared.package.BuildTargetId.TheVariants.{Library, Binary, Example, Test, Benchmark, BuildScript}
 use Rattle.filterset_graph.specs.declared.package.PackageMetadata.{PackageMetadata}
 use Rattle.filterset_matchers.specs.Matcher.{Matcher, MatchesName}
-use Rattle.nextest_filtering.specs.Binaries.{NameAndId, name_and_id, binary_with, binary_of, binaries_of, members_of, test_binaries}
-use Rattle.nextest_filtering.specs.Checks.{MatchesSomeName}
 use Rattle.nextest_filtering.proofs.Members.{kept, from_filter, chosen, from_chosen, joined, from_joined, mapped, from_mapped}
-use Rattle.nextest_filtering.specs.declared.compile.context.TestBinary.{TestBinary}
-use Rattle.std.proofs.lemmas.List.Elements.{All-contains}
+use Rattle.nextest_filtering.specs.Binaries.{NameAndId, name_and_id, binary_with, binary_of, binaries_of, members_of, test_binaries}
+use Rattle.nextest_filtering.specs.{Checks.MatchesSomeName, declared.compile.context.TestBinary.TestBinary}
 
 -- a target of a workspace package that a test binary is made of
 pub record Made (packages : List PackageMetadata) (row : NameAndId) : Type 0 where

@@ -3,21 +3,17 @@ use Rattle.std.proofs.Common.{◌≡◌, ◌⊎◌, inl, inr, ℕ, List, [], ◌
 use Rattle.std.specs.Prelude.{All, IfSome, Option, Some, None, option_map}
 use Rattle.std.specs.List.{Contains, cons_option, filter_map}
 use Rattle.std.proofs.lemmas.List.Elements.{All-nil, All-cons, All-head, All-tail, All-contains_itself}
-use Rattle.filterset_faults.specs.declared.error.ParseSingleError.{ParseSingleError}
-use Rattle.filterset_faults.specs.declared.error.ParseSingleError.TheVariants.{BannedPredicate}
+use Rattle.filterset_faults.specs.declared.error.ParseSingleError.{ParseSingleError, TheVariants.BannedPredicate}
 use Rattle.filterset_faults.specs.declared.kind.BannedPredicateReason.{BannedPredicateReason}
-use Rattle.filterset_faults.specs.declared.kind.FiltersetKind.{FiltersetKind}
-use Rattle.filterset_faults.specs.declared.span.SourceSpan.{SourceSpan}
+use Rattle.filterset_faults.specs.declared.{kind.FiltersetKind.FiltersetKind, span.SourceSpan.SourceSpan}
 use Rattle.filterset_graph.specs.declared.package.PackageMetadata.{PackageMetadata}
-use Rattle.filterset_grammar.specs.Bans.{ban_reason}
-use Rattle.filterset_grammar.specs.Grammar.{Spells}
-use Rattle.filterset_grammar.specs.Tree as tree
+use Rattle.filterset_grammar.specs.{Bans.ban_reason, Grammar.Spells}
 use Rattle.filterset_grammar.specs.Tree.{Leaf, Tree, Matching, Platform, Default, leaf_without_span, tree_leaves}
 use Rattle.filterset_grammar.specs.declared.predicate.Predicate.TheVariants.{Package, Deps, Rdeps, Binary, BinaryId, Group}
+use Rattle.filterset_grammar.specs.Tree as tree
 use Rattle.filterset_language.specs.Faults.{FaultStands, IsOf, LeafAt, leaf_span}
 use Rattle.filterset_language.proofs.LeafSpans.{LiesIn, LeafLiesIn, leaves_lie}
-use Rattle.nextest_filtering.specs.Bans.{ban}
-use Rattle.nextest_filtering.specs.Checks.{AreUnmatched, SaysUnmatched}
+use Rattle.nextest_filtering.specs.{Bans.ban, Checks.AreUnmatched, Checks.SaysUnmatched}
 use Rattle.nextest_filtering.specs.Compiling.{IsRefusedWith, found, rejected, IsRejectedWith, banned, unmatched}
 use Rattle.nextest_filtering.specs.declared.compile.context.KnownGroups.{KnownGroups}
 

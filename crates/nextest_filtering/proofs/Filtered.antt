@@ -1,10 +1,8 @@
 -- What a loop over chosen elements gathers.
 use Rattle.std.proofs.Common.{◌≡◌, ℕ, suc, ◌+◌, ◌<◌, Bool, true, false, List, [], ◌∷◌, ◌++◌, map, take, length, get_or, refl, ap, sym, ◌∙◌, arith}
-use Rattle.std.specs.Prelude.{Option, Some, None}
-use Rattle.std.specs.List.{filter, filter_map, cons_option}
+use Rattle.std.specs.{Prelude.Option, Prelude.Some, Prelude.None, List.filter, List.filter_map, List.cons_option}
 use Rattle.std.proofs.Math.Seq.{take-suc}
-use Rattle.std.proofs.lemmas.List.{map-append, append-nil}
-use Rattle.std.proofs.lemmas.List.Elements.{filter_map-append}
+use Rattle.std.proofs.lemmas.List.{map-append, append-nil, Elements.filter_map-append}
 
 -- one element more
 pub one_more : {X Y Z : Type 0} (h : Y → Option Z) (v : X → Y) (xs : List X) (k : ℕ) (d : X) → k < length xs

@@ -1,14 +1,10 @@
 -- The names of groups that were collected.
 use Rattle.std.proofs.Common.{◌≡◌, ◌↔◌, ◌||◌, ◌∙◌, true, List, [], ◌∷◌, map, Contains, Global, String, string_bytes, sym, ap, subst, refl}
-use Rattle.std.specs.HashSet as bag
 use Rattle.std.specs.HashSet.{HashSet, keys}
-use Rattle.std.specs.List.{list_any}
-use Rattle.std.specs.Str.{bytes_eq}
-use Rattle.std.specs.String.{string_eq, string_eq_equiv}
-use Rattle.std.proofs.lemmas.List.Folds.{Any-from_list_any}
-use Rattle.std.proofs.lemmas.Map.Made.{is_member-Decides}
-use Rattle.std.proofs.lemmas.Map.Views.{list_any-from_Contains}
-use Rattle.std.proofs.lemmas.Slice.Eq.{bytes_eq-Decides}
+use Rattle.std.specs.{List.list_any, Str.bytes_eq, String.string_eq, String.string_eq_equiv}
+use Rattle.std.proofs.lemmas.{List.Folds.Any-from_list_any, Map.Made.is_member-Decides}
+use Rattle.std.proofs.lemmas.{Map.Views.list_any-from_Contains, Slice.Eq.bytes_eq-Decides}
+use Rattle.std.specs.HashSet as bag
 use Rattle.filterset_graph.specs.Packages.{Text}
 
 abbrev texts : List (String Global) → List Text

@@ -1,10 +1,8 @@
 -- Matchers and the names of known groups.
 use Rattle.std.proofs.Common.{◌↔◌, inr, ⊎_elim, refl, sym, subst}
-use Rattle.std.specs.Prelude.{Any, codes, string_bytes}
-use Rattle.std.specs.HashSet.{keys}
+use Rattle.std.specs.{Prelude.Any, Prelude.codes, Prelude.string_bytes, HashSet.keys}
 use Rattle.filterset_matchers.specs.Matcher.{Matcher, MatchesName}
-use Rattle.nextest_filtering.specs.Checks.{MatchesSomeName}
-use Rattle.nextest_filtering.specs.Groups.{IsGroupName}
+use Rattle.nextest_filtering.specs.{Checks.MatchesSomeName, Groups.IsGroupName}
 use Rattle.nextest_filtering.specs.declared.compile.context.KnownGroups.TheVariants as groups
 
 -- where it is not, some group is where a custom one is

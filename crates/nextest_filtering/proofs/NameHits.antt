@@ -1,15 +1,10 @@
 -- Names in the text of all names.
 use Rattle.std.proofs.Common.{◌≡◌, ◌+◌, ◌-◌, ◌<◌, ◌≤◌, ℕ, List, [], ◌∷◌, ◌++◌, length, take, drop, get_or, ap, sym, subst, ◌∙◌, ⊎_elim, inl, inr, arith}
-use Rattle.std.specs.Borrow.{Bor}
-use Rattle.std.specs.Prelude.{Contains}
-use Rattle.std.specs.Str.Iter.{HasSubslice}
-use Rattle.std.proofs.Math.Dec.{leb}
-use Rattle.std.proofs.Math.Seq.{take-add, take-length}
-use Rattle.std.proofs.lemmas.Bool.{cases_lt, le-leb, leb-true}
-use Rattle.std.proofs.lemmas.Grind.{flat_map-append, same_number_lists}
+use Rattle.std.specs.{Borrow.Bor, Prelude.Contains, Str.Iter.HasSubslice}
+use Rattle.std.proofs.Math.{Dec.leb, Seq.take-add, Seq.take-length}
+use Rattle.std.proofs.lemmas.{Bool.cases_lt, Bool.le-leb, Bool.leb-true, Grind.flat_map-append, Grind.same_number_lists}
 use Rattle.std.proofs.lemmas.List.{append-nil, get_or-drop, get_or-take, length-append, length-drop, length-take-le, take_more}
-use Rattle.std.proofs.lemmas.List.Concat.{get_or-flat_map}
-use Rattle.std.proofs.lemmas.List.Folds.{length-flat_map-take}
+use Rattle.std.proofs.lemmas.List.{Concat.get_or-flat_map, Folds.length-flat_map-take}
 use Rattle.std.proofs.lemmas.List.FromFn.{get_or-map-range_with_len, length-map-range_with_len, map-range_with_len_more}
 use Rattle.filterset_graph.specs.declared.package.PackageMetadata.{PackageMetadata}
 use Rattle.filterset_matchers.specs.Substring.{StandsAt}

@@ -1,30 +1,23 @@
 -- Sets of packages: by name, and along paths.
 use Rattle.std.proofs.Common.{◌≡◌, ◌≢◌, ◌↔◌, ◌⊎◌, inl, inr, ⊎_elim, ℕ, ◌+◌, ◌<◌, Bool, true, Bor, List, [], ◌∷◌, ◌++◌, map, length, refl, sym, ◌∙◌, ap, subst, arith}
 use Rattle.std.specs.Prelude.{Contains, Some, IsTrue, slice_get, string_bytes, Vec}
-use Rattle.std.specs.BTreeSet.{BTreeSet, IsFromIterResult}
-use Rattle.std.specs.declared.cmp.Ordering.TheVariants.{Equal}
-use Rattle.std.specs.Cmp.Lexicographic.{slice_cmp}
-use Rattle.std.specs.Ordering.{nat_cmp, is_eq}
-use Rattle.std.specs.Global.{Global}
+use Rattle.std.specs.{BTreeSet.BTreeSet, BTreeSet.IsFromIterResult, declared.cmp.Ordering.TheVariants.Equal}
+use Rattle.std.specs.{Cmp.Lexicographic.slice_cmp, Ordering.nat_cmp, Ordering.is_eq, Global.Global}
 use Rattle.std.proofs.lemmas.Cmp.{nat_list_cmp_total}
 use Rattle.std.proofs.lemmas.List.Elements.{Contains-append_left, Contains-append_right, Contains-append_cases}
 use Rattle.std.proofs.lemmas.Map.Text.{is_eq-slice_cmp}
 use Rattle.std.proofs.lemmas.Map.Views.{btree_set_contains_from_list, btree_set_contains_iff}
-use Rattle.std.proofs.lemmas.Slice.Eq.{bytes_eq-Decides}
-use Rattle.std.proofs.lemmas.Option.{same_Some, slice_get_within}
-use Rattle.std.proofs.lemmas.Bool.{cases_lt}
+use Rattle.std.proofs.lemmas.{Slice.Eq.bytes_eq-Decides, Option.same_Some, Option.slice_get_within, Bool.cases_lt}
 use Rattle.filterset_graph.proofs.Rows.{pushed_at, pushed_keeps, pushed_cases}
 use Rattle.filterset_graph.proofs.Positions.{position_from_Contains, Contains-from_position, element_from_mapped, mapped_at}
 use Rattle.filterset_graph.specs.Marked.{IsMarkedId, MarksReached, MarksReaching}
 use Rattle.filterset_graph.specs.Packages.{Path, ids, AllDiffer}
-use Rattle.filterset_graph.specs.Walks.{IsMarked}
-use Rattle.filterset_graph.specs.declared.package.PackageMetadata.{PackageMetadata}
+use Rattle.filterset_graph.specs.{Walks.IsMarked, declared.package.PackageMetadata.PackageMetadata}
 use Rattle.filterset_matchers.specs.Matcher.{Matcher, MatchesName}
 use Rattle.filterset_expression.specs.Meaning.{IsMember, IsNamed, IsPackage, IsDependency, IsDependent}
-use Rattle.nextest_filtering.specs.Binaries.{members_of}
-use Rattle.nextest_filtering.specs.PackageMarks.{IsMatchAt, HasNamed, IsNamedAt, MarksNamed, IsMarkedMember}
-use Rattle.nextest_filtering.specs.Candidates.{AreCandidates}
 use Rattle.nextest_filtering.proofs.Members.{none_in, first, first_or_later, kept, from_filter}
+use Rattle.nextest_filtering.specs.{Binaries.members_of, Candidates.AreCandidates}
+use Rattle.nextest_filtering.specs.PackageMarks.{IsMatchAt, HasNamed, IsNamedAt, MarksNamed, IsMarkedMember}
 
 same_text : (a b : List ℕ) → slice_cmp nat_cmp a b ≡ Equal → a ≡ b
 same_text a b e = (bytes_eq-Decides a b).0 (sym (is_eq-slice_cmp a b) ∙ ap is_eq e)

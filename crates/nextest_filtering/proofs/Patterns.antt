@@ -1,28 +1,19 @@
 -- Texts one of which each name contains that a matcher matches.
 use Rattle.std.proofs.Common.{◌≡◌, ℕ, ◌+◌, ◌/◌, ◌%◌, ◌<◌, true, List, [], ◌∷◌, All, IsUtf8, inl, inr, ⊎_elim, refl, sym, ap, ◌∙◌, subst, length, map, get_or, arith}
-use Rattle.std.specs.Char.{IsScalar, encode_utf8}
-use Rattle.std.specs.Str.{encode_utf8_all}
 use Rattle.std.proofs.Math.Utf8.{scalars}
-use Rattle.std.proofs.lemmas.Bool.{and_parts, cases_lt}
-use Rattle.std.proofs.lemmas.List.{get_or_default, get_or_past, get_or-map}
-use Rattle.std.proofs.lemmas.List.Elements.{All-append, All-cons, All-nil}
-use Rattle.std.proofs.lemmas.Str.{encode_ascii}
-use Rattle.regex_extract.specs.Needles.{ContainsNeedle}
-use Rattle.regex_hir.specs.Meaning.{meaning}
-use Rattle.regex_hir.specs.declared.hir.Hir.{Hir}
+use Rattle.std.proofs.lemmas.{Bool.and_parts, Bool.cases_lt, List.get_or_default, List.get_or_past, List.get_or-map}
+use Rattle.std.proofs.lemmas.{List.Elements.All-append, List.Elements.All-cons, List.Elements.All-nil, Str.encode_ascii}
+use Rattle.std.specs.{Char.IsScalar, Char.encode_utf8, Global.Global}
+use Rattle.std.specs.Prelude.{IfOk, IfSome, Option, Some, None, Result, Ok, Err, Vec}
+use Rattle.std.specs.Str.{encode_utf8_all, Iter.HasSubslice}
+use Rattle.regex_extract.specs.Needles.{ContainsNeedle, needles_of}
+use Rattle.regex_hir.specs.{Meaning.meaning, declared.hir.Hir.Hir}
 use Rattle.regex_hir.proofs.Utf8Lemmas.{InScalarRange-of_IsScalar, encode_two, encode_three, encode_four}
 use Rattle.regex_literal.specs.Find.{needle_at}
 use Rattle.regex_literal.proofs.lemmas.FindLemmas.{OccursAt-part}
-use Rattle.filterset_matchers.proofs.PatternLemmas.{HasMatch-of_tree}
-use Rattle.filterset_matchers.proofs.Substrings.{stands_somewhere}
-use Rattle.filterset_matchers.specs.Compiled.{IsReadAs}
-use Rattle.filterset_matchers.specs.Matcher.{Regex}
+use Rattle.filterset_matchers.proofs.{PatternLemmas.HasMatch-of_tree, Substrings.stands_somewhere}
+use Rattle.filterset_matchers.specs.{Compiled.IsReadAs, Matcher.Regex, Matcher.Matcher, Matcher.MatchesName}
 use Rattle.nextest_filtering.specs.Candidates.{OneStandsInNames}
-use Rattle.std.specs.Global.{Global}
-use Rattle.std.specs.Prelude.{IfOk, IfSome, Option, Some, None, Result, Ok, Err, Vec}
-use Rattle.std.specs.Str.Iter.{HasSubslice}
-use Rattle.regex_extract.specs.Needles.{needles_of}
-use Rattle.filterset_matchers.specs.Matcher.{Matcher, MatchesName}
 
 -- a text alone
 pub alone_stands : {E : Type 0} (matcher : Matcher) (text : List ℕ) (found : Result (Option (Vec (Vec ℕ Global) Global)) E)

@@ -2,23 +2,18 @@
 use Rattle.std.proofs.Common.{◌≡◌, ◌≢◌, ◌⊎◌, inl, inr, ⊎_elim, ℕ, List, [], sym, ◌∙◌, subst}
 use Rattle.std.proofs.lemmas.List.Elements.{All-weaker}
 use Rattle.std.specs.Prelude.{All, Result, Ok, Err, IsErrAnd, IfErr, OnOk}
-use Rattle.filterset_faults.specs.declared.error.ParseSingleError.{ParseSingleError}
-use Rattle.filterset_faults.specs.declared.kind.FiltersetKind.{FiltersetKind}
+use Rattle.filterset_faults.specs.declared.{error.ParseSingleError.ParseSingleError, kind.FiltersetKind.FiltersetKind}
 use Rattle.filterset_faults.specs.declared.span.SourceSpan.{SourceSpan}
 use Rattle.filterset_graph.specs.declared.package.PackageMetadata.{PackageMetadata}
 use Rattle.filterset_language.specs.Faults.{FaultStands}
-use Rattle.filterset_grammar.specs.Grammar.{Spells}
 use Rattle.filterset_language.specs.Parsed.{Reads, LiesOnBody, LiesOnLargeBody, Comes, HasRefusedBodies, IsUnreadWith}
-use Rattle.filterset_grammar.specs.Tree.{Tree, tree_leaves}
-use Rattle.filterset_language.specs.declared.parsing.parse.ParseStop.{ParseStop}
+use Rattle.filterset_language.specs.declared.parsing.parse.{ParseStop.ParseStop, Parsed.Parsed}
+use Rattle.filterset_language.proofs.{LargeBodies.large_body, SpelledIsRead.one_tree}
+use Rattle.filterset_grammar.specs.{Grammar.Spells, Tree.Tree, Tree.tree_leaves}
 use Rattle.filterset_language.specs.declared.parsing.parse.ParseStop.TheVariants as stop
-use Rattle.filterset_language.specs.declared.parsing.parse.Parsed.{Parsed}
-use Rattle.filterset_language.proofs.LargeBodies.{large_body}
-use Rattle.filterset_language.proofs.SpelledIsRead.{one_tree}
 use Rattle.nextest_filtering.specs.Compiling.{IsFiltersetOf, IsRejectedWith, banned, unmatched, IsRefusedWith, found, rejected, IsStopOf, IsRejectionOf}
 use Rattle.nextest_filtering.specs.declared.compile.context.KnownGroups.{KnownGroups}
-use Rattle.nextest_filtering.proofs.Banned.{no_bans}
-use Rattle.nextest_filtering.proofs.Unmatched.{all_matched}
+use Rattle.nextest_filtering.proofs.{Banned.no_bans, Unmatched.all_matched}
 
 -- faults of a parse refuse the text
 pub refuted : (text : List ℕ) (p : Parsed) → p.faults.items ≢ [] → All (FaultStands text) p.faults.items

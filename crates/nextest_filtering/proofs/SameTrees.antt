@@ -4,16 +4,12 @@ use Rattle.std.proofs.Common.{◌≡◌, ℕ, List, [], ◌∷◌, ◌++◌, map
 use Rattle.std.specs.Prelude.{All, None}
 use Rattle.std.proofs.lemmas.List.{map-append}
 use Rattle.std.proofs.lemmas.List.Elements.{All-nil, All-cons, All-head, All-tail}
-use Rattle.filterset_faults.specs.declared.kind.FiltersetKind.{FiltersetKind}
-use Rattle.filterset_faults.specs.declared.span.SourceSpan.{SourceSpan}
+use Rattle.filterset_faults.specs.declared.{kind.FiltersetKind.FiltersetKind, span.SourceSpan.SourceSpan}
 use Rattle.filterset_graph.specs.declared.package.PackageMetadata.{PackageMetadata}
-use Rattle.filterset_grammar.specs.Bans.{ban_reason}
-use Rattle.filterset_grammar.specs.Grammar.{Spells}
-use Rattle.filterset_grammar.specs.Patterns.{BareAreRead}
-use Rattle.filterset_grammar.specs.Tree as tree
+use Rattle.filterset_grammar.specs.{Bans.ban_reason, Grammar.Spells, Patterns.BareAreRead}
 use Rattle.filterset_grammar.specs.Tree.{Leaf, Tree, leaf_without_span, without_spans, SameTree, tree_leaves}
-use Rattle.nextest_filtering.specs.Checks.{MatchesSomething}
-use Rattle.nextest_filtering.specs.Compiling.{IsFiltersetOf}
+use Rattle.filterset_grammar.specs.Tree as tree
+use Rattle.nextest_filtering.specs.{Checks.MatchesSomething, Compiling.IsFiltersetOf}
 use Rattle.nextest_filtering.specs.declared.compile.context.KnownGroups.{KnownGroups}
 
 -- ---- predicates without their spans

@@ -1,14 +1,10 @@
 -- The predicates that are banned from filtersets of a kind, and their faults.
 use Rattle.std.specs.Prelude.{◌≡◌, Bool, List, All, Option, None, option_map}
-use Rattle.std.specs.List.{filter_map}
-use Rattle.std.specs.Option.{is_some, option_and_then}
-use Rattle.filterset_faults.specs.declared.error.ParseSingleError.{ParseSingleError}
-use Rattle.filterset_faults.specs.declared.error.ParseSingleError.TheVariants.{BannedPredicate}
+use Rattle.std.specs.{List.filter_map, Option.is_some, Option.option_and_then}
+use Rattle.filterset_faults.specs.declared.error.ParseSingleError.{ParseSingleError, TheVariants.BannedPredicate}
 use Rattle.filterset_faults.specs.declared.kind.BannedPredicateReason.{BannedPredicateReason}
-use Rattle.filterset_faults.specs.declared.kind.FiltersetKind.{FiltersetKind}
-use Rattle.filterset_faults.specs.declared.span.SourceSpan.{SourceSpan}
-use Rattle.filterset_grammar.specs.Bans.{ban_reason}
-use Rattle.filterset_grammar.specs.Tree.{Leaf, Tree, leaf_without_span, tree_leaves}
+use Rattle.filterset_faults.specs.declared.{kind.FiltersetKind.FiltersetKind, span.SourceSpan.SourceSpan}
+use Rattle.filterset_grammar.specs.{Bans.ban_reason, Tree.Leaf, Tree.Tree, Tree.leaf_without_span, Tree.tree_leaves}
 use Rattle.filterset_language.specs.Faults.{leaf_span}
 
 -- the span of a banned predicate, and why it is banned

@@ -2,8 +2,7 @@
 use Rattle.std.specs.Prelude.{List, ℕ, Option, option_map, string_bytes}
 use Rattle.std.specs.List.{filter, filter_map, flat_map}
 use Rattle.filterset_graph.specs.Binaries.{kind_of, written_id}
-use Rattle.filterset_graph.specs.declared.package.BuildTarget.{BuildTarget}
-use Rattle.filterset_graph.specs.declared.package.PackageMetadata.{PackageMetadata}
+use Rattle.filterset_graph.specs.declared.package.{BuildTarget.BuildTarget, PackageMetadata.PackageMetadata}
 use Rattle.nextest_filtering.specs.declared.compile.context.TestBinary.{TestBinary}
 
 -- the packages of the workspace, in their order

@@ -1,10 +1,8 @@
 -- Packages among which are all whose names a matcher matches.
 use Rattle.std.specs.Prelude.{◌↔◌, ℕ, Contains, IsUtf8, List}
-use Rattle.std.specs.Borrow.{Bor}
-use Rattle.std.specs.Str.Iter.{HasSubslice}
+use Rattle.std.specs.{Borrow.Bor, Str.Iter.HasSubslice}
 use Rattle.filterset_graph.specs.declared.package.PackageMetadata.{PackageMetadata}
-use Rattle.filterset_matchers.specs.Matcher.{Matcher, MatchesName}
-use Rattle.filterset_matchers.specs.Pattern.{HasOneOf}
+use Rattle.filterset_matchers.specs.{Matcher.Matcher, Matcher.MatchesName, Pattern.HasOneOf}
 use Rattle.nextest_filtering.specs.Joined.{name_of}
 
 -- these are those of the packages whose names contain the text

@@ -8,9 +8,8 @@ use Rattle.filterset_graph.specs.declared.package.PackageMetadata.{PackageMetada
 use Rattle.filterset_matchers.specs.Matcher.{Matcher, MatchesName}
 use Rattle.filterset_grammar.specs.Tree.{Leaf, Tree, Matching, leaf_without_span, tree_leaves}
 use Rattle.filterset_grammar.specs.declared.predicate.Predicate.TheVariants.{Package, Deps, Rdeps, Binary, BinaryId, Group}
-use Rattle.nextest_filtering.specs.Groups.{IsGroupName}
+use Rattle.nextest_filtering.specs.{Groups.IsGroupName, declared.compile.context.KnownGroups.KnownGroups}
 use Rattle.filterset_expression.specs.Meaning.{IsNamed}
-use Rattle.nextest_filtering.specs.declared.compile.context.KnownGroups.{KnownGroups}
 
 -- the matcher matches one of these texts
 abbrev pub MatchesSomeName : Matcher → (List ℕ → Type 0) → Type 0

@@ -1,19 +1,15 @@
 -- What it means that a filterset is accepted or rejected.
 use Rattle.std.specs.Prelude.{◌≡◌, ◌≢◌, ◌⊎◌, ℕ, List, [], All, string_bytes}
-use Rattle.std.specs.declared.alloc.Global.{Global}
-use Rattle.std.specs.declared.string.String.{String}
-use Rattle.filterset_faults.specs.declared.error.ParseSingleError.{ParseSingleError}
-use Rattle.filterset_faults.specs.declared.kind.FiltersetKind.{FiltersetKind}
+use Rattle.std.specs.declared.{alloc.Global.Global, string.String.String}
+use Rattle.filterset_faults.specs.declared.{error.ParseSingleError.ParseSingleError, kind.FiltersetKind.FiltersetKind}
 use Rattle.filterset_faults.specs.declared.span.SourceSpan.{SourceSpan}
 use Rattle.filterset_graph.specs.declared.package.PackageMetadata.{PackageMetadata}
 use Rattle.filterset_language.specs.Parsed.{Reads, LiesOnBody, LiesOnLargeBody, IsUnreadWith}
-use Rattle.filterset_grammar.specs.Tree.{Tree, tree_leaves}
 use Rattle.filterset_language.specs.declared.parsing.parse.ParseStop.{ParseStop}
+use Rattle.filterset_grammar.specs.Tree.{Tree, tree_leaves}
 use Rattle.filterset_language.specs.declared.parsing.parse.ParseStop.TheVariants as stop
-use Rattle.nextest_filtering.specs.Bans.{bans, IsAllowed}
-use Rattle.nextest_filtering.specs.Checks.{AllChecked, AreUnmatched}
-use Rattle.nextest_filtering.specs.declared.compile.context.KnownGroups.{KnownGroups}
-use Rattle.nextest_filtering.specs.declared.compile.context.ParseContext.{ParseContext}
+use Rattle.nextest_filtering.specs.{Bans.bans, Bans.IsAllowed, Checks.AllChecked, Checks.AreUnmatched}
+use Rattle.nextest_filtering.specs.declared.compile.context.{KnownGroups.KnownGroups, ParseContext.ParseContext}
 use Rattle.nextest_filtering.specs.declared.filterset.ParseRefusal.{ParseRefusal}
 use Rattle.nextest_filtering.specs.declared.filterset.ParseRefusal.TheVariants.{Faults, OutOfMemory}
 

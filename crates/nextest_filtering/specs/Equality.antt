@@ -1,8 +1,6 @@
 -- Equality of filtersets: of all fields, spans included.
-use Rattle.std.specs.Prelude.{◌&&◌, Bool, string_bytes}
-use Rattle.std.specs.Str.{bytes_eq}
-use Rattle.filterset_expression.specs.Equality.{same_compiled_leaf, same_formula}
-use Rattle.filterset_expression.specs.Expression.{formula}
+use Rattle.std.specs.{Prelude.◌&&◌, Prelude.Bool, Prelude.string_bytes, Str.bytes_eq}
+use Rattle.filterset_expression.specs.{Equality.same_compiled_leaf, Equality.same_formula, Expression.formula}
 use Rattle.filterset_grammar.specs.Equality.{same_span, same_tree}
 use Rattle.filterset_language.specs.Views.{tree_of}
 use Rattle.nextest_filtering.specs.declared.filterset.Filterset.{Filterset}

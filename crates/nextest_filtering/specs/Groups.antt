@@ -1,8 +1,6 @@
 -- The groups that filtersets may name.
 use Rattle.std.specs.Prelude.{◌≡◌, ◌⊎◌, ◌↔◌, ℕ, List, [], Contains, codes, map, string_bytes}
-use Rattle.std.specs.HashSet.{keys}
-use Rattle.std.specs.declared.alloc.Global.{Global}
-use Rattle.std.specs.declared.string.String.{String}
+use Rattle.std.specs.{HashSet.keys, declared.alloc.Global.Global, declared.string.String.String}
 use Rattle.nextest_filtering.specs.declared.compile.context.KnownGroups.{KnownGroups}
 use Rattle.nextest_filtering.specs.declared.compile.context.KnownGroups.TheVariants.{Known, Unavailable}
 

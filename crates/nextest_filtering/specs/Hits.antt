@@ -1,10 +1,8 @@
 -- What a search over the text of all names finds.
 use Rattle.std.specs.Prelude.{◌≡◌, ◌↔◌, ◌<◌, ◌≤◌, ℕ, IsTrue, List, length, slice_index_or}
-use Rattle.std.specs.Borrow.{Bor}
-use Rattle.std.specs.Str.Iter.{HasSubslice}
+use Rattle.std.specs.{Borrow.Bor, Str.Iter.HasSubslice}
 use Rattle.filterset_graph.specs.declared.package.PackageMetadata.{PackageMetadata}
-use Rattle.nextest_filtering.specs.Joined.{name_of}
-use Rattle.nextest_filtering.specs.declared.compile.members.Hit.{Hit}
+use Rattle.nextest_filtering.specs.{Joined.name_of, declared.compile.members.Hit.Hit}
 
 -- the package at a position
 abbrev pub IsAt : List (Bor PackageMetadata) → ℕ → Bor PackageMetadata → Type 0

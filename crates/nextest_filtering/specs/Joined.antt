@@ -1,7 +1,6 @@
 -- The names of packages, one after the other.
 use Rattle.std.specs.Prelude.{ℕ, ◌+◌, List, length, map, take, string_bytes}
-use Rattle.std.specs.Borrow.{Bor}
-use Rattle.std.specs.List.{flat_map, range_with_len}
+use Rattle.std.specs.{Borrow.Bor, List.flat_map, List.range_with_len}
 use Rattle.filterset_graph.specs.declared.package.PackageMetadata.{PackageMetadata}
 
 abbrev pub name_of : Bor PackageMetadata → List ℕ

@@ -1,8 +1,7 @@
 -- Packages that are named or marked by their positions.
 use Rattle.std.specs.Prelude.{◌≡◌, ◌↔◌, ℕ, Bool, List, Some, IsTrue, slice_get, string_bytes}
 use Rattle.std.specs.Borrow.{Bor}
-use Rattle.filterset_graph.specs.Walks.{IsMarked}
-use Rattle.filterset_graph.specs.declared.package.PackageMetadata.{PackageMetadata}
+use Rattle.filterset_graph.specs.{Walks.IsMarked, declared.package.PackageMetadata.PackageMetadata}
 use Rattle.filterset_matchers.specs.Matcher.{Matcher, MatchesName}
 
 -- the package at the position is one of the workspace whose name the matcher matches

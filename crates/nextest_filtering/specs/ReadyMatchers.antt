@@ -1,7 +1,6 @@
 -- Matchers for many names.
 use Rattle.filterset_matchers.specs.Matcher as matcher
-use Rattle.filterset_matchers.specs.Matcher.{Matcher}
-use Rattle.filterset_matchers.specs.Matchers.{matcher_of}
+use Rattle.filterset_matchers.specs.{Matcher.Matcher, Matchers.matcher_of}
 use Rattle.nextest_filtering.specs.declared.compile.ready.ReadyMatcher.{ReadyMatcher}
 use Rattle.nextest_filtering.specs.declared.compile.ready.ReadyMatcher.TheVariants.{Pattern, Other}
 

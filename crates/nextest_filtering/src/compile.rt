@@ -1,10 +1,8 @@
 //! The compiler: trees of filtersets to compiled expressions.
 ghost use Rattle.std.specs.Prelude.{◌≡◌, ◌∷◌, [], IfOk, OnOk, IfErr};
-ghost use Rattle.nextest_filtering.specs.Bans.{IsAllowed};
-ghost use Rattle.nextest_filtering.specs.Checks.{AddsUnmatched, AllChecked};
+ghost use Rattle.nextest_filtering.specs.{Bans.IsAllowed, Checks.AddsUnmatched, Checks.AllChecked};
 ghost use Rattle.nextest_filtering.specs.Compiling.{packages_of, IsRejectionOf};
-ghost use Rattle.filterset_expression.specs.Expression.{formula};
-ghost use Rattle.filterset_expression.specs.Meaning.{IsCompiled, joined};
+ghost use Rattle.filterset_expression.specs.{Expression.formula, Meaning.IsCompiled, Meaning.joined};
 ghost use Rattle.filterset_grammar.specs.Tree.{tree_leaves, Set};
 ghost use Rattle.filterset_language.specs.Views.{leaf_of, tree_of};
 

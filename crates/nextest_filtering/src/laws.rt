@@ -3,8 +3,7 @@ ghost use Rattle.std.specs.Prelude.{ℕ, List};
 ghost use Rattle.filterset_faults.specs.declared.kind.FiltersetKind.{FiltersetKind};
 ghost use Rattle.filterset_graph.specs.declared.package.PackageMetadata.{PackageMetadata};
 ghost use Rattle.filterset_language.specs.Views.{tree_of};
-ghost use Rattle.nextest_filtering.specs.Compiling.{IsFiltersetOf};
-ghost use Rattle.nextest_filtering.specs.Formatting.{PrintsFilterset};
+ghost use Rattle.nextest_filtering.specs.{Compiling.IsFiltersetOf, Formatting.PrintsFilterset};
 ghost use Rattle.nextest_filtering.specs.declared.compile.context.KnownGroups.{KnownGroups};
 
 pub use filterset_expression::laws::{

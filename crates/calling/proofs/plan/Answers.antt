@@ -1,6 +1,5 @@
 use Rattle.std.proofs.Common.{◌≡◌, false, Some, subst, sym, rules}
-use Rattle.filterset_expression.specs.BinaryMeaning.{IsDefiniteTree}
-use Rattle.filterset_expression.specs.declared.query.BinaryQuery.{BinaryQuery}
+use Rattle.filterset_expression.specs.{BinaryMeaning.IsDefiniteTree, declared.query.BinaryQuery.BinaryQuery}
 use Rattle.calling.proofs.plan.Goals as goal
 
 -- a binary that is decided as false has no test that the filterset picks

@@ -1,6 +1,5 @@
 use Rattle.std.proofs.Common.{arith, List, subst}
-use Rattle.filterset_c.specs.Queries.{AreAllTexts}
-use Rattle.filterset_c.specs.declared.queries.Test.{Test}
+use Rattle.filterset_c.specs.{Queries.AreAllTexts, declared.queries.Test.Test}
 use Rattle.filterset_c.proofs.Numbers.{only_texts}
 use Rattle.filterset_c.proofs.filterset_matches_test.Goals as goal
 

@@ -1,7 +1,6 @@
 use Rattle.std.proofs.Common.{◌∙◌, Option, Some, ap, subst, sym}
 use Rattle.filterset_c.specs.Parsing.{IsOutcome, ParsesIn}
-use Rattle.filterset_c.specs.declared.object.Object.{Object}
-use Rattle.filterset_c.specs.Workspaces.{IsWorkspace}
+use Rattle.filterset_c.specs.{declared.object.Object.Object, Workspaces.IsWorkspace}
 use Rattle.filterset_c.proofs.Storing.{judged, outcome_of}
 use Rattle.filterset_c.proofs.filterset_parse.Goals as goal
 

@@ -1,6 +1,5 @@
 use Rattle.std.proofs.Common.{rules, arith, ◌≡◌, ◌∙◌, Option, Some, ap, subst, sym}
-use Rattle.filterset_c.specs.Parsing.{IsOutcome, ParsesIn}
-use Rattle.filterset_c.specs.declared.object.Object.{Object}
+use Rattle.filterset_c.specs.{Parsing.IsOutcome, Parsing.ParsesIn, declared.object.Object.Object}
 use Rattle.filterset_c.proofs.Storing.{of_some, parses_default, rejected_outcome, rejected_status}
 use Rattle.filterset_c.proofs.filterset_workspace_set_default_filter.Goals as goal
 

@@ -1,14 +1,11 @@
 //! What is known of a platform.
 ghost use Rattle.std.specs.Prelude.{◌≡◌, ◌≢◌, ◌++◌, IfErr, IfOk, MatchOption, codes, map};
-ghost use Rattle.std.specs.List.{AllZip};
-ghost use Rattle.std.specs.Str.{bytes_eq};
-ghost use Rattle.std.specs.Option.{option_map};
-ghost use Rattle.std.specs.Str.Lines.{lines};
+ghost use Rattle.std.specs.{List.AllZip, Str.bytes_eq, Option.option_map, Str.Lines.lines};
 ghost use Rattle.filterset_configuration.specs.PlatformGrammar.{IsLine};
 ghost use Rattle.filterset_configuration.specs.PlatformReading.{AreSettings, Refuses};
 ghost use Rattle.filterset_configuration.specs.PlatformTrees.{Setting, facts_of, setting_of};
-ghost use Rattle.filterset_json.specs.Shape.{Text};
 ghost use Rattle.filterset_configuration.specs.PlatformValues.{is_set, sets};
+ghost use Rattle.filterset_json.specs.Shape.{Text};
 
 use crate::platforms::fault::CfgRefusal;
 use crate::platforms::parsing::words::split_word;

@@ -1,7 +1,6 @@
 //! The evaluation of leaves.
 ghost use Rattle.std.specs.Prelude.{◌≡◌, ◌↔◌, IfOk, IsTrue};
-ghost use Rattle.filterset_matchers.specs.Matcher.{MatchesName};
-ghost use Rattle.filterset_matchers.specs.Matchers.{matcher_of};
+ghost use Rattle.filterset_matchers.specs.{Matcher.MatchesName, Matchers.matcher_of};
 ghost use Rattle.filterset_expression.specs.Expression.{compiled_leaf, is_of_test, no_groups, HoldsOfBinary, HoldsOfTest};
 ghost use Rattle.filterset_expression.specs.Folds.{Settles};
 

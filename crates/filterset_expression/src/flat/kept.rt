@@ -1,8 +1,6 @@
 //! Matchers that are kept from one evaluation to the next.
 ghost use Rattle.std.specs.Prelude.{◌↔◌, IfOk, IsTrue};
-ghost use Rattle.filterset_matchers.specs.Matcher.{MatchesName};
-ghost use Rattle.filterset_matchers.specs.Matchers.{matcher_of};
-ghost use Rattle.filterset_matchers.specs.Pattern.{HasMatch};
+ghost use Rattle.filterset_matchers.specs.{Matcher.MatchesName, Matchers.matcher_of, Pattern.HasMatch};
 
 use crate::FiltersetLeaf;
 use crate::flat::FlatStep;

@@ -2,8 +2,7 @@
 
 ghost use Rattle.std.specs.Prelude.{◌≡◌, ℕ, ◌+◌, ◌*◌, ◌<◌, ◌↔◌, length, slice_index};
 ghost use Rattle.std.specs.Int.{bit_at};
-ghost use Rattle.filterset_glob.specs.Matching.{Admits};
-ghost use Rattle.filterset_glob.specs.Tokens.{token_of};
+ghost use Rattle.filterset_glob.specs.{Matching.Admits, Tokens.token_of};
 
 use crate::lanes;
 use crate::lanes::Block;

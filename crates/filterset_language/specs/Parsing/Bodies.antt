@@ -1,6 +1,5 @@
 -- A body as contracts see it.
-use Rattle.std.specs.Prelude.{List, ℕ}
-use Rattle.std.specs.String.{string_bytes}
+use Rattle.std.specs.{Prelude.List, Prelude.ℕ, String.string_bytes}
 use Rattle.filterset_faults.specs.declared.span.SourceSpan.{SourceSpan}
 use Rattle.filterset_language.specs.declared.parsing.regex_body.RegexBody.{RegexBody}
 

@@ -1,26 +1,19 @@
 -- How expressions are read. Public contracts cite the grammar instead.
 use Rattle.std.specs.Prelude.{ℕ, zero, suc, ◌-◌, List, length, take, codes, Bool, true, false, ◌==◌, Option, Some, None, Box, if◌then◌else◌}
-use Rattle.filterset_language.specs.Parsing.Front.{close_len, is_white}
+use Rattle.filterset_language.specs.Parsing.{Front.close_len, Front.is_white, Globs.glob_in, PlatformNames.platform_in}
 use Rattle.filterset_language.specs.Parsing.Position.{Position, position, advanced, skip, after}
 use Rattle.filterset_language.specs.Parsing.RawTexts.{raw_at, body_at}
-use Rattle.filterset_language.specs.Parsing.PlatformNames.{platform_in}
-use Rattle.filterset_language.specs.Parsing.Globs.{glob_in}
-use Rattle.filterset_grammar.specs.Grammar.{own_matching}
 use Rattle.filterset_language.specs.Parsing.Words.{choose, not_at, joiner_at, or_at, name_at}
+use Rattle.filterset_language.specs.{Views.tree_of, declared.parsing.matchers.Sign.Sign}
+use Rattle.filterset_language.specs.declared.{parsing.names.PredicateName.PredicateName, tree.ParsedExpr.ParsedExpr}
+use Rattle.filterset_grammar.specs.Grammar.{own_matching}
+use Rattle.filterset_grammar.specs.Tree.{Leaf, Matching, Platform, Default, Tree, Not, Union, Join, Parens, Set}
+use Rattle.filterset_grammar.specs.declared.{operators.Joiner.Joiner, predicate.Predicate.Predicate}
+use Rattle.filterset_grammar.specs.declared.{operators.OrOperator.OrOperator, predicate.TextMatching.TextMatching}
 use Rattle.filterset_matchers.specs.Matcher.{Matcher, Equal, Contains, Regex}
 use Rattle.filterset_grammar.specs.Tree as tree
-use Rattle.filterset_grammar.specs.Tree.{Leaf, Matching, Platform, Default, Tree, Not, Union, Join, Parens, Set}
-use Rattle.filterset_grammar.specs.declared.operators.Joiner.{Joiner}
-use Rattle.filterset_grammar.specs.declared.predicate.Predicate.{Predicate}
-use Rattle.filterset_language.specs.Views.{tree_of}
-use Rattle.filterset_grammar.specs.declared.operators.OrOperator.{OrOperator}
-use Rattle.filterset_language.specs.declared.tree.ParsedExpr.{ParsedExpr}
-use Rattle.filterset_faults.specs.Span.{span}
-use Rattle.filterset_faults.specs.declared.span.SourceSpan.{SourceSpan}
-use Rattle.filterset_language.specs.declared.parsing.matchers.Sign.{Sign}
-use Rattle.filterset_grammar.specs.declared.predicate.TextMatching.{TextMatching}
+use Rattle.filterset_faults.specs.{Span.span, declared.span.SourceSpan.SourceSpan}
 use Rattle.filterset_grammar.specs.declared.predicate.TextMatching.TheVariants as ways
-use Rattle.filterset_language.specs.declared.parsing.names.PredicateName.{PredicateName}
 use Rattle.filterset_language.specs.declared.parsing.names.PredicateName.TheVariants as names
 
 -- a tree with the spans of a text

@@ -1,8 +1,6 @@
 -- How the text of a glob is read. Public contracts cite `GlobText` instead.
 use Rattle.std.specs.Prelude.{ℕ, Bool, List, chars, Option, Some, None, Result, Ok, Err}
-use Rattle.filterset_glob.specs.Reading.{reading}
-use Rattle.filterset_glob.specs.Tokens.{Tokens}
-use Rattle.filterset_glob.specs.declared.fault.GlobConstructError.{GlobConstructError}
+use Rattle.filterset_glob.specs.{Reading.reading, Tokens.Tokens, declared.fault.GlobConstructError.GlobConstructError}
 use Rattle.filterset_matchers.specs.Matcher.{Matcher, Glob}
 
 -- the glob matcher of a text that was read

@@ -2,26 +2,18 @@
 -- and the reader returns no value if one was rejected.
 use Rattle.std.specs.Prelude.{◌≡◌, ℕ, suc, ◌+◌, ◌<◌, ◌≤◌, List, ◌++◌, length, All, Option, None, Some, Box, Result, IfOk, codes}
 use Rattle.std.specs.Option.{option_map}
-use Rattle.filterset_grammar.specs.Text.{Body}
-use Rattle.filterset_language.specs.Parsing.Position.{Position, position_of, after, skip}
-use Rattle.filterset_matchers.specs.Matcher.{Matcher, Regex}
-use Rattle.filterset_matchers.specs.Pattern.{MayBeRejected}
-use Rattle.filterset_grammar.specs.Tree.{Leaf, Set, Not, Parens}
-use Rattle.filterset_language.specs.Views.{leaf_of}
+use Rattle.filterset_grammar.specs.{Text.Body, Tree.Leaf, Tree.Set, Tree.Not, Tree.Parens}
 use Rattle.filterset_grammar.specs.Patterns.{MatcherIsRead, LeafIsRead, PatternsAreRead}
-use Rattle.filterset_language.specs.Faults.{piece}
-use Rattle.filterset_language.specs.Parsed.{LiesOnBody}
+use Rattle.filterset_grammar.specs.declared.operators.NotOperator.{NotOperator}
+use Rattle.filterset_language.specs.Parsing.Position.{Position, position_of, after, skip}
+use Rattle.filterset_language.specs.{Views.leaf_of, Faults.piece, Parsed.LiesOnBody}
 use Rattle.filterset_language.specs.Parsing.Descent.{Placed, Reader, Next, Make, more, boxed_tree, operand_at, or_level_by}
 use Rattle.filterset_language.specs.Parsing.Recovery.{FaultList, Recovers}
-use Rattle.filterset_language.specs.declared.parsing.input.Input.{Input}
-use Rattle.filterset_language.specs.declared.parsing.input.Read.{Read}
-use Rattle.filterset_grammar.specs.declared.operators.NotOperator.{NotOperator}
-use Rattle.filterset_language.specs.declared.tree.ParsedExpr.{ParsedExpr}
-use Rattle.filterset_language.specs.declared.tree.ParsedLeaf.{ParsedLeaf}
-use Rattle.filterset_matchers.specs.Matchers.{matcher_of}
+use Rattle.filterset_language.specs.declared.parsing.input.{Input.Input, Read.Read}
+use Rattle.filterset_language.specs.declared.tree.{ParsedExpr.ParsedExpr, ParsedLeaf.ParsedLeaf}
+use Rattle.filterset_matchers.specs.{Matcher.Matcher, Matcher.Regex, Pattern.MayBeRejected, Matchers.matcher_of}
 use Rattle.filterset_matchers.specs.declared.matcher.NameMatcher.{NameMatcher}
-use Rattle.filterset_faults.specs.declared.span.SourceSpan.{SourceSpan}
-use Rattle.filterset_faults.specs.declared.error.ParseSingleError.{ParseSingleError}
+use Rattle.filterset_faults.specs.declared.{span.SourceSpan.SourceSpan, error.ParseSingleError.ParseSingleError}
 use Rattle.filterset_faults.specs.declared.error.ParseSingleError.TheVariants.{InvalidRegexWithoutMessage}
 
 abbrev pub Faults : Type 0

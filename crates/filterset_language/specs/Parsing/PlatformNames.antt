@@ -1,8 +1,7 @@
 -- How the name of a platform is read. Public contracts cite `Names` instead.
 use Rattle.std.specs.Prelude.{List, ℕ, codes, Option, Some, None, if◌then◌else◌}
 use Rattle.std.specs.Str.{is_utf8, trim, bytes_eq}
-use Rattle.filterset_graph.specs.declared.package.BuildPlatform.{BuildPlatform}
-use Rattle.filterset_graph.specs.declared.package.BuildPlatform.TheVariants.{Target, Host}
+use Rattle.filterset_graph.specs.declared.package.BuildPlatform.{BuildPlatform, TheVariants.Target, TheVariants.Host}
 
 -- the platform of that name
 abbrev pub platform_from : List ℕ → Option BuildPlatform

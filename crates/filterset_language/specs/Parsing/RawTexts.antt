@@ -4,10 +4,8 @@ use Rattle.std.specs.Option.{option_map, option_and_then}
 use Rattle.filterset_glob.specs.Signs.{sign, ◌∈◌}
 use Rattle.filterset_grammar.specs.Text.{is_plain, Spelled, Body, with_slashes}
 use Rattle.filterset_language.specs.Parsing.Position.{Position, position, advanced, after}
-use Rattle.filterset_language.specs.Parsing.Escapes.{escape_at}
-use Rattle.filterset_language.specs.Faults.{EndsText}
-use Rattle.filterset_faults.specs.declared.span.SourceSpan.{SourceSpan}
-use Rattle.filterset_faults.specs.Span.{span}
+use Rattle.filterset_language.specs.{Parsing.Escapes.escape_at, Faults.EndsText}
+use Rattle.filterset_faults.specs.{declared.span.SourceSpan.SourceSpan, Span.span}
 
 -- how many bytes that stand for themselves are at the front
 abbrev pub plain_len : List ℕ → ℕ

@@ -1,17 +1,14 @@
 -- What a reader promises that goes on after a fault.
 use Rattle.std.specs.Prelude.{◌≡◌, ℕ, ◌<◌, ◌≤◌, List, length, take, codes, Option, None, Some, IsSome, MatchOption, All, Bool, true, false, Result, IfOk, Vec}
-use Rattle.std.specs.Option.{option_map}
-use Rattle.std.specs.declared.alloc.Global.{Global}
-use Rattle.filterset_language.specs.Parsing.Position.{Position, position_of, skip, after, after_word, advanced, IsAtOrBehind}
-use Rattle.filterset_language.specs.Parsing.Escapes.{escape_at}
+use Rattle.std.specs.{Option.option_map, declared.alloc.Global.Global}
 use Rattle.filterset_language.specs.Faults.{FaultStands, BeforeOperand, EndsWith, Misplaced, misplaced_and, misplaced_or, misplaced_AND, misplaced_OR, misplaced_ampersands, misplaced_pipes}
+use Rattle.filterset_language.specs.Parsing.{Descent.Placed, Descent.◌>>=◌, Descent.Make, Escapes.escape_at}
+use Rattle.filterset_language.specs.Parsing.Position.{Position, position_of, skip, after, after_word, advanced, IsAtOrBehind}
 use Rattle.filterset_language.specs.Parsing.Words.{name_at, not_at, name_text}
-use Rattle.filterset_language.specs.Parsing.Descent.{Placed, ◌>>=◌, Make}
+use Rattle.filterset_language.specs.declared.parsing.input.{Input.Input, Read.Read}
+use Rattle.filterset_language.specs.declared.parsing.names.PredicateName.{PredicateName}
 use Rattle.filterset_faults.specs.declared.error.ParseSingleError.{ParseSingleError}
 use Rattle.filterset_faults.specs.declared.error.ParseSingleError.TheVariants.{ExpectedEndOfExpression}
-use Rattle.filterset_language.specs.declared.parsing.names.PredicateName.{PredicateName}
-use Rattle.filterset_language.specs.declared.parsing.input.Input.{Input}
-use Rattle.filterset_language.specs.declared.parsing.input.Read.{Read}
 
 -- the list of faults grows; without a new fault the value is what reading gives, and with one reading gives nothing
 pub record Recovers {X : Type 0} (old new : List ParseSingleError) (value read : Option X) : Type 0 where

@@ -1,13 +1,10 @@
 -- What reading a whole text returns.
 use Rattle.std.specs.Prelude.{◌≡◌, ◌≢◌, ℕ, suc, List, [], ◌∷◌, ◌++◌, ◌⊎◌, length, All, Option, None, Some}
-use Rattle.filterset_language.specs.Parsing.Position.{position}
-use Rattle.filterset_language.specs.Faults.{FaultStands}
-use Rattle.filterset_grammar.specs.Patterns.{PatternsAreRead}
-use Rattle.filterset_language.specs.Parsed.{LiesOnBody}
+use Rattle.filterset_language.specs.{Parsing.Position.position, Faults.FaultStands, Parsed.LiesOnBody}
 use Rattle.filterset_language.specs.Parsing.Descent.{Placed, operand_at, or_level_by, whole_by}
+use Rattle.filterset_grammar.specs.Patterns.{PatternsAreRead}
 use Rattle.filterset_faults.specs.Span.{offset_of}
-use Rattle.filterset_faults.specs.declared.span.SourceSpan.{SourceSpan}
-use Rattle.filterset_faults.specs.declared.error.ParseSingleError.{ParseSingleError}
+use Rattle.filterset_faults.specs.declared.{span.SourceSpan.SourceSpan, error.ParseSingleError.ParseSingleError}
 use Rattle.filterset_faults.specs.declared.error.ParseSingleError.TheVariants.{ExpectedEndOfExpression}
 
 -- an expression was read up to an offset

@@ -2,19 +2,17 @@
 use Rattle.std.specs.Prelude.{ℕ, List, [], ◌∷◌, codes, Option, Some, None, if◌then◌else◌}
 use Rattle.filterset_glob.specs.Signs.{◌∈◌}
 use Rattle.filterset_language.specs.Parsing.Position.{Position, position_of, after, after_word}
+use Rattle.filterset_language.specs.declared.parsing.{input.Input.Input, names.PredicateName.PredicateName}
 use Rattle.filterset_grammar.specs.declared.operators.Joiner.{Joiner}
 use Rattle.filterset_grammar.specs.declared.operators.Joiner.TheVariants.{Both, Without, ExactlyOne}
 use Rattle.filterset_grammar.specs.declared.predicate.Predicate.TheVariants.{Package, Deps, Rdeps, Kind, Binary, BinaryId, Test, Group}
-use Rattle.filterset_grammar.specs.Grammar.{Name}
-use Rattle.filterset_language.specs.declared.parsing.input.Input.{Input}
-use Rattle.filterset_grammar.specs.declared.operators.NotOperator.{NotOperator}
+use Rattle.filterset_grammar.specs.{Grammar.Name, declared.operators.NotOperator.NotOperator}
 use Rattle.filterset_grammar.specs.declared.operators.NotOperator.TheVariants.{LiteralNot, Exclamation}
 use Rattle.filterset_grammar.specs.declared.operators.OrOperator.{OrOperator}
 use Rattle.filterset_grammar.specs.declared.operators.OrOperator.TheVariants.{LiteralOr, Pipe, Plus}
 use Rattle.filterset_grammar.specs.declared.operators.AndOperator.TheVariants.{LiteralAnd, Ampersand}
 use Rattle.filterset_grammar.specs.declared.operators.DifferenceOperator.TheVariants.{Minus}
 use Rattle.filterset_grammar.specs.declared.operators.SymmetricDifferenceOperator.TheVariants.{Caret}
-use Rattle.filterset_language.specs.declared.parsing.names.PredicateName.{PredicateName}
 use Rattle.filterset_language.specs.declared.parsing.names.PredicateName.TheVariants as names
 
 -- the text of a predicate's name

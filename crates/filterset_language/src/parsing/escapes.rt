@@ -1,6 +1,5 @@
 //! Reads escapes of raw texts.
-ghost use Rattle.std.specs.Prelude.{◌≡◌, ◌<◌, ◌≤◌, length, zero};
-ghost use Rattle.std.specs.Option.{option_map};
+ghost use Rattle.std.specs.{Prelude.◌≡◌, Prelude.◌<◌, Prelude.◌≤◌, Prelude.length, Prelude.zero, Option.option_map};
 ghost use Rattle.filterset_language.specs.Parsing.Escapes.{letter_at, digit_at, named, code_from, escape_at, seen_escape};
 
 /// The character of an escape, and the number of bytes after its backslash.

@@ -2,12 +2,11 @@
 ghost use Rattle.std.specs.Prelude.{◌≡◌, suc, ◌<◌, length, IfOk, Some};
 ghost use Rattle.std.specs.Option.{option_map};
 ghost use Rattle.filterset_grammar.specs.Tree.{Not, Parens, Set};
-ghost use Rattle.filterset_language.specs.Views.{leaf_of};
-ghost use Rattle.filterset_language.specs.Parsing.Position.{position_of, IsBehind, IsAtOrBehind};
-ghost use Rattle.filterset_language.specs.Parsing.Words.{joiner_at, or_at};
 ghost use Rattle.filterset_language.specs.Parsing.Descent.{boxed_tree, operand_at, and_level_by, or_level_by, join, unite, set_at};
-ghost use Rattle.filterset_language.specs.Parsing.Recovery.{StillStand, EndsBehind, joined, Checked, AtOperand, AtName, NoOperand};
 ghost use Rattle.filterset_language.specs.Parsing.Outcome.{ReadsTree, ReadsSet, ReadsNegation, ReadsParens, ReadsOn};
+ghost use Rattle.filterset_language.specs.Parsing.Position.{position_of, IsBehind, IsAtOrBehind};
+ghost use Rattle.filterset_language.specs.Parsing.Recovery.{StillStand, EndsBehind, joined, Checked, AtOperand, AtName, NoOperand};
+ghost use Rattle.filterset_language.specs.{Parsing.Words.joiner_at, Parsing.Words.or_at, Views.leaf_of};
 
 use crate::parsing::input::{Input, Read};
 use crate::parsing::misplaced::find_misplaced;

@@ -1,8 +1,7 @@
 //! Positions in a text, and steps from one to the next: over blanks, a word, or all up to the next `)`.
 ghost use Rattle.std.specs.Prelude.{◌≡◌, ◌+◌, ◌-◌, ◌≤◌, ◌<◌, ◌^◌, length, min, IsCharBoundary, IfSome};
 ghost use Rattle.std.specs.Option.{option_map};
-ghost use Rattle.filterset_language.specs.Parsing.Front.{blank_len, close_len};
-ghost use Rattle.filterset_language.specs.Parsing.Seam.{IsSeam, AreBlanks};
+ghost use Rattle.filterset_language.specs.Parsing.{Front.blank_len, Front.close_len, Seam.IsSeam, Seam.AreBlanks};
 ghost use Rattle.filterset_faults.specs.Span.{span};
 
 use filterset_faults::SourceSpan;

@@ -1,11 +1,9 @@
 //! Reads matchers.
 ghost use Rattle.std.specs.Prelude.{◌∷◌, [], ◌≡◌, IfOk, Some, false, codes, take, string_bytes};
 ghost use Rattle.std.specs.Option.{option_map};
-ghost use Rattle.filterset_matchers.specs.Matcher.{Regex};
-ghost use Rattle.filterset_matchers.specs.Matchers.{matcher_of};
+ghost use Rattle.filterset_matchers.specs.{Matcher.Regex, Matchers.matcher_of};
 ghost use Rattle.filterset_language.specs.Faults.{EndsWith};
-ghost use Rattle.filterset_language.specs.Parsing.Position.{position_of, IsAtOrBehind};
-ghost use Rattle.filterset_language.specs.Parsing.RawTexts.{SpelledTo};
+ghost use Rattle.filterset_language.specs.Parsing.{Position.position_of, Position.IsAtOrBehind, RawTexts.SpelledTo};
 ghost use Rattle.filterset_language.specs.Parsing.Descent.{made, sign_at, seen_sign, regex_at, text_matcher_at, matcher_at};
 ghost use Rattle.filterset_language.specs.Parsing.Recovery.{ReadsAs, StillStand, EndsBehind, Recovers};
 ghost use Rattle.filterset_language.specs.Parsing.Outcome.{ReadsMatcher, MakesPattern};

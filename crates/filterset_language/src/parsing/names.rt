@@ -1,6 +1,5 @@
 //! Reads the names of predicates.
-ghost use Rattle.std.specs.Prelude.{◌≡◌, ◌<◌, length, IfSome};
-ghost use Rattle.std.specs.Option.{option_map};
+ghost use Rattle.std.specs.{Prelude.◌≡◌, Prelude.◌<◌, Prelude.length, Prelude.IfSome, Option.option_map};
 ghost use Rattle.filterset_language.specs.Parsing.Position.{position_of, IsBehind};
 ghost use Rattle.filterset_language.specs.Parsing.Words.{seen, first_byte, named, either, name_at};
 

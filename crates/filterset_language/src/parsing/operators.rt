@@ -1,6 +1,5 @@
 //! Reads operators. Each reader returns the position after the operator.
-ghost use Rattle.std.specs.Prelude.{◌≡◌, IfSome, codes, is_some};
-ghost use Rattle.std.specs.Option.{option_map};
+ghost use Rattle.std.specs.{Prelude.◌≡◌, Prelude.IfSome, Prelude.codes, Prelude.is_some, Option.option_map};
 ghost use Rattle.filterset_language.specs.Parsing.Position.{position_of, skip, after, IsBehind};
 ghost use Rattle.filterset_language.specs.Parsing.Words.{seen, not_at, joiner_at, or_at};
 

@@ -1,16 +1,12 @@
 //! Parses whole texts.
 ghost use Rattle.std.specs.Prelude.{◌≡◌, List, [], ◌∷◌, ◌++◌, ◌⊎◌, take, All, IfOk, IfErr};
 ghost use Rattle.std.specs.Option.{option_map};
-ghost use Rattle.filterset_grammar.specs.Tree.{Tree};
-ghost use Rattle.filterset_language.specs.Views.{tree_of};
-ghost use Rattle.filterset_grammar.specs.Grammar.{Spells};
-ghost use Rattle.filterset_language.specs.Faults.{FaultStands};
+ghost use Rattle.filterset_grammar.specs.{Tree.Tree, Grammar.Spells};
+ghost use Rattle.filterset_language.specs.{Views.tree_of, Faults.FaultStands};
 ghost use Rattle.filterset_language.specs.Parsed.{Reads, Comes, HasRefusedBodies, SpellsNothing, IsRefusalOf};
-ghost use Rattle.filterset_language.specs.Parsing.Descent.{boxed_tree};
-ghost use Rattle.filterset_language.specs.Parsing.Whole.{Wholly};
+ghost use Rattle.filterset_language.specs.Parsing.{Descent.boxed_tree, Whole.Wholly};
 ghost use Rattle.filterset_faults.specs.Span.{offset_of};
-ghost use Rattle.filterset_faults.specs.declared.span.SourceSpan.{SourceSpan};
-ghost use Rattle.filterset_faults.specs.declared.error.ParseSingleError.{ParseSingleError};
+ghost use Rattle.filterset_faults.specs.declared.{span.SourceSpan.SourceSpan, error.ParseSingleError.ParseSingleError};
 ghost use Rattle.filterset_faults.specs.declared.error.ParseSingleError.TheVariants.{ExpectedEndOfExpression};
 
 use crate::parsing::expressions::read_or_level;

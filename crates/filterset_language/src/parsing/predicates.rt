@@ -1,10 +1,8 @@
 //! Reads predicates.
-ghost use Rattle.std.specs.Prelude.{◌≡◌, codes};
-ghost use Rattle.std.specs.Option.{option_map};
+ghost use Rattle.std.specs.{Prelude.◌≡◌, Prelude.codes, Option.option_map};
 ghost use Rattle.filterset_matchers.specs.Matchers.{matcher_of};
 ghost use Rattle.filterset_grammar.specs.Tree.{Matching};
-ghost use Rattle.filterset_language.specs.Views.{leaf_of};
-ghost use Rattle.filterset_language.specs.Parsing.Front.{is_white};
+ghost use Rattle.filterset_language.specs.{Views.leaf_of, Parsing.Front.is_white};
 ghost use Rattle.filterset_language.specs.Parsing.Position.{position_of, skip, after, IsAtOrBehind};
 ghost use Rattle.filterset_language.specs.Parsing.Descent.{bare_end_at, bare_at, default_at, matching_at, platform_at, leaf_at};
 ghost use Rattle.filterset_language.specs.Parsing.Recovery.{StepsOver, ReadsAs, StillStand, GoesOn, EndsBehind, AtName};

@@ -1,9 +1,8 @@
 //! Reads bodies of regular expressions.
 ghost use Rattle.std.specs.Prelude.{◌≡◌, ◌≤◌, length, IfOk, IfSome};
 ghost use Rattle.std.specs.String.{string_bytes};
-ghost use Rattle.filterset_language.specs.Parsing.Position.{position_of};
+ghost use Rattle.filterset_language.specs.Parsing.{Bodies.seen_body, Position.position_of};
 ghost use Rattle.filterset_language.specs.Parsing.RawTexts.{body_len, body_at, BodyTaken};
-ghost use Rattle.filterset_language.specs.Parsing.Bodies.{seen_body};
 ghost use Rattle.filterset_language.specs.Parsing.Recovery.{ReadsAs, StillStand, EndsBehind};
 
 use crate::parsing::input::{Input, Read};

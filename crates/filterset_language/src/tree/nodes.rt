@@ -4,8 +4,7 @@
 //! each of their frames; built here, it is in a frame that ends before the next level begins.
 ghost use Rattle.std.specs.Prelude.{◌≡◌, IfOk};
 ghost use Rattle.filterset_grammar.specs.Tree.{Not, Union, Join, Parens, Set};
-ghost use Rattle.filterset_language.specs.Nodes.{IsNode};
-ghost use Rattle.filterset_language.specs.Views.{leaf_of, tree_of};
+ghost use Rattle.filterset_language.specs.{Nodes.IsNode, Views.leaf_of, Views.tree_of};
 
 use crate::tree::{ParsedExpr, ParsedLeaf};
 use filterset_faults::SourceSpan;

@@ -1,12 +1,9 @@
 //! Copies of trees with the parentheses that their operands need.
 ghost use Rattle.std.specs.Prelude.{◌≡◌, ◌↔◌, IfOk, IsTrue};
 ghost use Rattle.filterset_faults.specs.declared.span.SourceSpan.{SourceSpan};
-ghost use Rattle.filterset_grammar.specs.Tree.{Tree, SameTree};
-ghost use Rattle.filterset_language.specs.Views.{tree_of};
-ghost use Rattle.filterset_grammar.specs.Grammar.{Spells};
-ghost use Rattle.filterset_grammar.specs.Printing.{printed, WellFormed};
-ghost use Rattle.filterset_grammar.specs.AddedParens.{IsWithParens, HasWellFormedLeaves};
-ghost use Rattle.filterset_language.specs.Levels.{IsOfLevel, IsOperand};
+ghost use Rattle.filterset_grammar.specs.{AddedParens.IsWithParens, AddedParens.HasWellFormedLeaves, Grammar.Spells};
+ghost use Rattle.filterset_grammar.specs.{Printing.printed, Printing.WellFormed, Tree.Tree, Tree.SameTree};
+ghost use Rattle.filterset_language.specs.{Views.tree_of, Levels.IsOfLevel, Levels.IsOperand};
 
 use crate::laws::held::prove_held;
 use crate::tree::ParsedExpr;

@@ -8,8 +8,7 @@ ghost use Rattle.filterset_grammar.specs.Tree.{Tree};
 ghost use Rattle.filterset_listing.specs.Comparing.{IsBinaryDifference, TellsDifference, TellsUnknown, tests_in};
 ghost use Rattle.filterset_listing.specs.ComparisonText.{comparison_text, differs, has_unknown, part_text};
 ghost use Rattle.filterset_listing.specs.Pickers.{expr_picker, tree_picker};
-ghost use Rattle.filterset_listing.specs.declared.binary.AskedBinary.{AskedBinary};
-ghost use Rattle.filterset_listing.specs.declared.groups.GroupOverride.{GroupOverride};
+ghost use Rattle.filterset_listing.specs.declared.{binary.AskedBinary.AskedBinary, groups.GroupOverride.GroupOverride};
 
 use crate::comparing::skipped::push_skipped;
 use crate::comparing::{BinaryDifference, Part};

@@ -1,11 +1,7 @@
 //! The tests of a list that a filterset picks, in the shape in which nextest wrote the list.
 ghost use Rattle.std.specs.Prelude.{◌≡◌, [], IfErr, IfOk, List, None, OnOk, drop, string_bytes, take};
-ghost use Rattle.std.specs.BTreeMap.{insert_entry};
-ghost use Rattle.std.specs.List.{flat_map};
-ghost use Rattle.std.specs.String.{string_cmp};
-ghost use Rattle.serde_json.specs.Data.{Data, object};
-ghost use Rattle.serde_json.specs.Find.{as_object};
-ghost use Rattle.serde_json.specs.View.{members_view, view};
+ghost use Rattle.std.specs.{BTreeMap.insert_entry, List.flat_map, String.string_cmp};
+ghost use Rattle.serde_json.specs.{Data.Data, Data.object, Find.as_object, View.members_view, View.view};
 ghost use Rattle.filterset_listing.specs.Asking.{Text};
 ghost use Rattle.filterset_listing.specs.ListJson.{AreAnswers, IsListJson, IsSaid, MarksEach, MarksObject, MarksSuites, answer_in, match_data};
 ghost use Rattle.filterset_listing.specs.Listing.{tests_of, uncounted_of, unknown_of};

@@ -1,6 +1,5 @@
 //! A glob with its longest literal.
-ghost use Rattle.std.specs.Prelude.{◌≡◌, ◌↔◌, IfOk, IsTrue};
-ghost use Rattle.std.specs.Str.{chars};
+ghost use Rattle.std.specs.{Prelude.◌≡◌, Prelude.◌↔◌, Prelude.IfOk, Prelude.IsTrue, Str.chars};
 ghost use Rattle.filterset_glob.specs.Matching.{Matches};
 ghost use Rattle.filterset_matchers.specs.Literals.{begins_with_any_text};
 

@@ -5,10 +5,8 @@ ghost use Rattle.std.specs.Prelude.{◌≡◌, ◌≢◌, ◌↔◌, [], ◌∷�
 ghost use Rattle.regex.specs.declared.error.Error.TheVariants as regex;
 ghost use Rattle.regex_hir.specs.Meaning.{meaning};
 ghost use Rattle.filterset_matchers.specs.Compiled.{IsCompiledOf, IsPlaceOf, IsReadAs};
+ghost use Rattle.filterset_matchers.specs.Pattern.{IsPattern, IsPlain, IsSmall, IsErrorFor, IsUnreadOrLarge, MayBeRejected, HasMatch, IsBuiltOf, HasOneOf, IsChoice, IsSearchedFor, count_byte};
 ghost use Rattle.filterset_matchers.specs.declared.matcher.pattern.PatternRefusal.TheVariants as refusal;
-ghost use Rattle.filterset_matchers.specs.Pattern.{IsPattern, IsPlain, IsSmall, IsErrorFor, IsUnreadOrLarge, MayBeRejected};
-ghost use Rattle.filterset_matchers.specs.Pattern.{HasMatch, IsBuiltOf, HasOneOf, IsChoice, IsSearchedFor};
-ghost use Rattle.filterset_matchers.specs.Pattern.{count_byte};
 
 use crate::matcher::compiled::{Compiled, CompiledMatcher, LEAST_LITERAL, Place, place_of};
 use crate::matcher::plain::{is_special, unescape};
@@ -357,8 +355,7 @@ fn count_bytes(text: &str, byte: u8) -> usize
 /// Compares the texts.
 impl PartialEq for PatternRegex {
     ghost use Rattle.std.proofs.Common.{rules};
-    ghost use Rattle.std.specs.Cmp.Rules.{comparing};
-    ghost use Rattle.std.specs.Str.{bytes_eq};
+    ghost use Rattle.std.specs.{Cmp.Rules.comparing, Str.bytes_eq};
 
     ghost eq = { bytes_eq };
 

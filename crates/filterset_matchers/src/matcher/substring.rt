@@ -1,7 +1,6 @@
 //! A search for a substring. For texts of up to 60 bytes it is faster than `str::contains`.
 ghost use Rattle.std.specs.Prelude.{◌≡◌, ◌↔◌, ◌+◌, ◌-◌, ◌<◌, ◌≤◌, ℕ, IsTrue, length, slice_index};
-ghost use Rattle.std.specs.Int.{bit_at};
-ghost use Rattle.std.specs.Str.Iter.{HasSubslice};
+ghost use Rattle.std.specs.{Int.bit_at, Str.Iter.HasSubslice};
 ghost use Rattle.filterset_matchers.specs.Substring.{StandsAt};
 
 use std::simd::prelude::*;

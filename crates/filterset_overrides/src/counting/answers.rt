@@ -1,7 +1,6 @@
 //! Answers about tests, a list a question.
 ghost use Rattle.std.specs.Prelude.{◌≡◌, false, IfOk, map};
-ghost use Rattle.std.specs.List.{count_by, zip};
-ghost use Rattle.std.specs.Option.{is_none, unwrap_or};
+ghost use Rattle.std.specs.{List.count_by, List.zip, Option.is_none, Option.unwrap_or};
 ghost use Rattle.filterset_expression.specs.Connectives.{kleene, kleene_not};
 ghost use Rattle.filterset_expression.specs.declared.logic.Connective.TheVariants.{Conjunction, Disjunction};
 ghost use Rattle.filterset_overrides.specs.Applying.{verdict};

@@ -4,8 +4,7 @@ ghost use Rattle.std.specs.List.{list_all};
 ghost use Rattle.filterset_graph.specs.declared.package.PackageMetadata.{PackageMetadata};
 ghost use Rattle.filterset_expression.specs.Contexts.{default_of};
 ghost use Rattle.filterset_overrides.specs.Applied.{AreApplied, overrides_of};
-ghost use Rattle.filterset_overrides.specs.Applying.{IsCompiledOf, tests_of};
-ghost use Rattle.filterset_overrides.specs.Counting.{is_picked};
+ghost use Rattle.filterset_overrides.specs.{Applying.IsCompiledOf, Applying.tests_of, Counting.is_picked};
 
 use crate::applying::{Application, apply_to_tests};
 use crate::asked::{AskedOverride, ListedBinary};

@@ -4,8 +4,7 @@ ghost use Rattle.std.proofs.Common.{replicate};
 ghost use Rattle.filterset_graph.specs.declared.package.PackageMetadata.{PackageMetadata};
 ghost use Rattle.filterset_expression.specs.declared.expression.CompiledExpr.{CompiledExpr};
 ghost use Rattle.filterset_overrides.specs.Applied.{AreApplied, AreTaken, IsApplied, overrides_of};
-ghost use Rattle.filterset_overrides.specs.Applying.{Test};
-ghost use Rattle.filterset_overrides.specs.Counting.{EachAfter, IsGiven};
+ghost use Rattle.filterset_overrides.specs.{Applying.Test, Counting.EachAfter, Counting.IsGiven};
 ghost use Rattle.filterset_overrides.specs.declared.asked.AskedOverride.{AskedOverride};
 
 use crate::asked::sets;

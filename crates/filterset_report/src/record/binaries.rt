@@ -15,8 +15,7 @@ pub struct TestEntry {
 }
 
 impl Entry for TestEntry {
-    ghost use Rattle.filterset_report.specs.Record.{IsTest, TestRow};
-    ghost use Rattle.filterset_report.specs.Rows.{test_row};
+    ghost use Rattle.filterset_report.specs.{Record.IsTest, Record.TestRow, Rows.test_row};
 
     ghost Row = { TestRow };
 
@@ -47,8 +46,7 @@ pub struct BinaryEntry {
 }
 
 impl Entry for BinaryEntry {
-    ghost use Rattle.filterset_report.specs.Record.{IsBinary, BinaryRow};
-    ghost use Rattle.filterset_report.specs.Rows.{binary_row};
+    ghost use Rattle.filterset_report.specs.{Record.IsBinary, Record.BinaryRow, Rows.binary_row};
 
     ghost Row = { BinaryRow };
 

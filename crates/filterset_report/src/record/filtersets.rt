@@ -43,8 +43,7 @@ pub struct FiltersetEntry {
 
 /// A text alone is a filterset of kind `test`.
 impl Entry for FiltersetEntry {
-    ghost use Rattle.filterset_report.specs.Record.{FiltersetRow, IsFilterset};
-    ghost use Rattle.filterset_report.specs.Rows.{filterset_row};
+    ghost use Rattle.filterset_report.specs.{Record.FiltersetRow, Record.IsFilterset, Rows.filterset_row};
 
     ghost Row = { FiltersetRow };
 

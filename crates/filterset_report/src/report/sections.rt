@@ -1,17 +1,14 @@
 //! Writes what a report says about each filterset.
 ghost use Rattle.std.specs.Prelude.{◌≡◌, ◌++◌, Bool, IfOk, OnOk, codes, map, string_bytes};
 ghost use Rattle.filterset_language.specs.Views.{tree_of};
-ghost use Rattle.nextest_filtering.specs.Compiling.{IsFiltersetOf};
-ghost use Rattle.nextest_filtering.specs.Groups.{IsKnown};
+ghost use Rattle.nextest_filtering.specs.{Compiling.IsFiltersetOf, Groups.IsKnown};
 ghost use Rattle.filterset_expression.specs.Meaning.{IsCompiled};
-ghost use Rattle.filterset_json.specs.Pieces.{Pieces};
+ghost use Rattle.filterset_json.specs.{Pieces.Pieces, Shape.Text};
 ghost use Rattle.filterset_report.specs.Asking.{ForItsColumns, ForItsExpr, IsLookupOf, IsSameExpr};
 ghost use Rattle.filterset_report.specs.Library.{background_of, IsAboutBinary};
-ghost use Rattle.filterset_report.specs.Lines.{answer_text};
-ghost use Rattle.filterset_report.specs.Record.{FiltersetRow};
+ghost use Rattle.filterset_report.specs.{Lines.answer_text, Record.FiltersetRow};
 ghost use Rattle.filterset_report.specs.Report.{Accepted, BinaryLines, Section, Sections, TestLine, outcome_of, printed_line};
 ghost use Rattle.filterset_report.specs.Rows.{binary_row, filterset_row, test_row};
-ghost use Rattle.filterset_json.specs.Shape.{Text};
 
 use crate::listed::ListedBinary;
 use crate::lookup::RecordLookup;

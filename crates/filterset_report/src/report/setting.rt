@@ -1,6 +1,5 @@
 //! What the filtersets of a record are parsed and evaluated with.
-ghost use Rattle.filterset_report.specs.Rows.{binary_row};
-ghost use Rattle.filterset_report.specs.Library.{IsAboutBinary};
+ghost use Rattle.filterset_report.specs.{Rows.binary_row, Library.IsAboutBinary};
 
 use crate::lookup::RecordLookup;
 use crate::record::{BinaryEntry, Command};

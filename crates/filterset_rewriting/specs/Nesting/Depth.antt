@@ -2,8 +2,7 @@
 use Rattle.std.specs.Prelude.{◌≡◌, ◌⊎◌, ◌==◌, ◌<◌, ℕ, List, length, max, slice_index, suc}
 use Rattle.std.specs.List.{count_by}
 use Rattle.filterset_faults.specs.declared.span.SourceSpan.{SourceSpan}
-use Rattle.filterset_grammar.specs.Grammar.{Spells}
-use Rattle.filterset_grammar.specs.Tree.{Tree, Join, Not, Parens, Set, Union}
+use Rattle.filterset_grammar.specs.{Grammar.Spells, Tree.Tree, Tree.Join, Tree.Not, Tree.Parens, Tree.Set, Tree.Union}
 
 -- the most parentheses and negations that a predicate is in; operands side by side do not add up
 abbrev pub depth : {S : Type 0} → Tree S → ℕ

@@ -1,8 +1,6 @@
 -- Levels of a filterset, from token to token.
 use Rattle.std.specs.Prelude.{◌≡◌, ℕ, ◌+◌, ◌<◌, ◌≤◌, Bool, true, false, List, [], ◌∷◌, ◌++◌}
-use Rattle.filterset_rewriting.specs.Nesting.Tokens.{Begins}
-use Rattle.filterset_rewriting.specs.declared.nesting.Levels.{Levels}
-use Rattle.filterset_rewriting.specs.declared.nesting.Step.{Step}
+use Rattle.filterset_rewriting.specs.{Nesting.Tokens.Begins, declared.nesting.Levels.Levels, declared.nesting.Step.Step}
 use Rattle.filterset_rewriting.specs.declared.nesting.Step.TheVariants.{Misplaced, TooDeep, Within}
 use Rattle.filterset_rewriting.specs.declared.nesting.tokens.Lexeme.{Lexeme}
 use Rattle.filterset_rewriting.specs.declared.nesting.tokens.Lexeme.TheVariants.{Between, Close, Negation, Open, Other, Predicate}

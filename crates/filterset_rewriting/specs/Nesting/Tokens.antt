@@ -1,15 +1,11 @@
 -- What a text begins with.
 use Rattle.std.specs.Prelude.{◌≡◌, ℕ, ◌||◌, Bool, List, ◌∷◌, ◌++◌, Option, None, Some, IsTrue, codes, length, if◌then◌else◌}
-use Rattle.std.specs.List.{prefix_len}
-use Rattle.std.specs.Str.{bytes_eq}
+use Rattle.std.specs.{List.prefix_len, Str.bytes_eq}
 use Rattle.filterset_faults.specs.declared.span.SourceSpan.{SourceSpan}
 use Rattle.filterset_glob.specs.Signs.{◌∈◌}
-use Rattle.filterset_grammar.specs.Grammar.{LeafText}
-use Rattle.filterset_grammar.specs.Text.{Blanks, ends_word, is_between}
-use Rattle.filterset_grammar.specs.Tree.{Leaf}
+use Rattle.filterset_grammar.specs.{Grammar.LeafText, Text.Blanks, Text.ends_word, Text.is_between, Tree.Leaf}
 use Rattle.filterset_rewriting.specs.Nesting.Arguments.{IsArgument, argument_of}
-use Rattle.filterset_rewriting.specs.declared.nesting.arguments.ArgumentKind.{ArgumentKind}
-use Rattle.filterset_rewriting.specs.declared.nesting.tokens.Lexeme.{Lexeme}
+use Rattle.filterset_rewriting.specs.declared.nesting.{arguments.ArgumentKind.ArgumentKind, tokens.Lexeme.Lexeme}
 use Rattle.filterset_rewriting.specs.declared.nesting.tokens.Lexeme.TheVariants.{Between, Close, Negation, Open, Predicate}
 
 -- the token that is this byte

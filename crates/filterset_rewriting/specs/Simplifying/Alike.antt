@@ -1,12 +1,10 @@
 -- Trees that match the same tests at sight.
-use Rattle.std.specs.Prelude.{◌&&◌, Bool, true, false}
-use Rattle.std.specs.Bool.{beq}
-use Rattle.std.specs.Str.{bytes_eq}
+use Rattle.std.specs.{Prelude.◌&&◌, Prelude.Bool, Prelude.true, Prelude.false, Bool.beq, Str.bytes_eq}
 use Rattle.filterset_glob.specs.Equality.{same_tokens}
 use Rattle.filterset_grammar.specs.Equality.{same_platform, same_predicate}
 use Rattle.filterset_grammar.specs.Tree.{Leaf, Matching, Platform, Default, All, None, Tree, Not, Union, Join, Set}
-use Rattle.filterset_rewriting.specs.Showing.{are_one_sort}
 use Rattle.filterset_grammar.specs.declared.predicate.Predicate.TheVariants.{Group}
+use Rattle.filterset_rewriting.specs.Showing.{are_one_sort}
 use Rattle.filterset_matchers.specs.Matcher.{Matcher, Equal, Contains, Glob, Regex}
 
 -- whether matchers are the same but for signs and the texts of globs

@@ -1,10 +1,8 @@
 -- Trees that say the same of every test and every binary, as far as anyone can answer.
 use Rattle.std.specs.Prelude.{◌≡◌, ◌↔◌, Bool, List, Option, Some, IsTrue, MatchOption}
 use Rattle.filterset_expression.specs.BinaryMeaning.{IsDefiniteTree, IsUndecidedTree}
-use Rattle.filterset_expression.specs.Meaning.{Meaning}
-use Rattle.filterset_expression.specs.declared.expression.CompiledExpr.{CompiledExpr}
-use Rattle.filterset_expression.specs.declared.query.BinaryQuery.{BinaryQuery}
-use Rattle.filterset_expression.specs.declared.query.TestQuery.{TestQuery}
+use Rattle.filterset_expression.specs.{Meaning.Meaning, declared.expression.CompiledExpr.CompiledExpr}
+use Rattle.filterset_expression.specs.declared.query.{BinaryQuery.BinaryQuery, TestQuery.TestQuery}
 use Rattle.filterset_grammar.specs.Tree.{Tree}
 use Rattle.filterset_graph.specs.declared.package.PackageMetadata.{PackageMetadata}
 use Rattle.filterset_matchers.specs.Matcher.{Matcher}

@@ -1,9 +1,7 @@
 -- Trees that are left of others.
 use Rattle.filterset_grammar.specs.Tree.{Leaf, Tree, Not, Union, Join, Parens, Set}
-use Rattle.filterset_grammar.specs.declared.operators.Joiner.{Joiner}
-use Rattle.filterset_grammar.specs.declared.operators.NotOperator.{NotOperator}
-use Rattle.filterset_grammar.specs.declared.operators.NotOperator.TheVariants.{LiteralNot}
-use Rattle.filterset_grammar.specs.declared.operators.OrOperator.{OrOperator}
+use Rattle.filterset_grammar.specs.declared.operators.{Joiner.Joiner, NotOperator.NotOperator}
+use Rattle.filterset_grammar.specs.declared.operators.{NotOperator.TheVariants.LiteralNot, OrOperator.OrOperator}
 
 -- The second tree is what is left of the first without some of its operands: predicates and operators are as they were
 -- written, and in their order. A `not` comes in where the other operand of an operator of the level of `and` goes. Where

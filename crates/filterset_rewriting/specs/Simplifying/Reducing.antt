@@ -3,10 +3,8 @@ use Rattle.std.specs.Prelude.{Bool, true, false, not, Option, Some, None}
 use Rattle.filterset_grammar.specs.Tree as tree
 use Rattle.filterset_grammar.specs.Tree.{Leaf, Tree, Not, Union, Join, Parens, Set}
 use Rattle.filterset_grammar.specs.declared.operators.Joiner.TheVariants.{Both, Without, ExactlyOne}
-use Rattle.filterset_grammar.specs.declared.operators.AndOperator.{AndOperator}
-use Rattle.filterset_grammar.specs.declared.operators.DifferenceOperator.{DifferenceOperator}
-use Rattle.filterset_grammar.specs.declared.operators.NotOperator.{NotOperator}
-use Rattle.filterset_grammar.specs.declared.operators.NotOperator.TheVariants.{LiteralNot}
+use Rattle.filterset_grammar.specs.declared.operators.{AndOperator.AndOperator, DifferenceOperator.DifferenceOperator}
+use Rattle.filterset_grammar.specs.declared.operators.NotOperator.{NotOperator, TheVariants.LiteralNot}
 use Rattle.filterset_grammar.specs.declared.operators.OrOperator.{OrOperator}
 use Rattle.filterset_grammar.specs.declared.operators.SymmetricDifferenceOperator.{SymmetricDifferenceOperator}
 use Rattle.filterset_language.specs.Views.{tree_of}

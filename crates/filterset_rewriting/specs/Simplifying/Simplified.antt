@@ -2,8 +2,7 @@
 use Rattle.std.specs.Prelude.{◌≡◌, ◌⊎◌}
 use Rattle.filterset_grammar.specs.Tree.{Tree}
 use Rattle.filterset_rewriting.specs.Simplifying.Answers.{KeepsDecided, PickAlike}
-use Rattle.filterset_rewriting.specs.Simplifying.Pruned.{IsLeftOf}
-use Rattle.filterset_rewriting.specs.Simplifying.Simple.{IsConstant, IsSimple}
+use Rattle.filterset_rewriting.specs.Simplifying.{Pruned.IsLeftOf, Simple.IsConstant, Simple.IsSimple}
 
 -- The second tree is the first without what changes nothing for every test.
 pub record IsSimplified {S : Type 0} (e d : Tree S) : Type 0 where

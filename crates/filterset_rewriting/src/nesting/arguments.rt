@@ -2,8 +2,7 @@
 ghost use Rattle.std.specs.Prelude.{◌≡◌, ◌≤◌, ◌∷◌, ◌++◌, IfSome, List, MatchOption, false, length, ℕ};
 ghost use Rattle.std.specs.Str.{bytes_eq};
 ghost use Rattle.filterset_grammar.specs.Text.{Blanks};
-ghost use Rattle.filterset_language.specs.Parsing.Front.{blank_len, close_len};
-ghost use Rattle.filterset_language.specs.Parsing.RawTexts.{body_len};
+ghost use Rattle.filterset_language.specs.Parsing.{Front.blank_len, Front.close_len, RawTexts.body_len};
 ghost use Rattle.filterset_rewriting.specs.Nesting.Arguments as spec;
 ghost use Rattle.filterset_rewriting.specs.Nesting.Arguments.{IsArgument, IsMatcher, IsRaw};
 

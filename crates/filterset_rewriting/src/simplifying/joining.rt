@@ -1,8 +1,7 @@
 //! What operators make of what is left of their operands.
 ghost use Rattle.std.specs.Prelude.{◌≡◌, IfOk};
 ghost use Rattle.filterset_language.specs.Views.{tree_of};
-ghost use Rattle.filterset_rewriting.specs.Simplifying.Reducing.{reduction_of};
-ghost use Rattle.filterset_rewriting.specs.Simplifying.Reducing.{negated, united, united_trees, intersected, intersected_trees, subtracted, differing};
+ghost use Rattle.filterset_rewriting.specs.Simplifying.Reducing.{reduction_of, negated, united, united_trees, intersected, intersected_trees, subtracted, differing};
 
 use crate::simplifying::alike::are_alike;
 use crate::simplifying::implying::implies;

@@ -1,6 +1,5 @@
 //! The suites of a list.
-ghost use Rattle.std.specs.Prelude.{IfOk, map};
-ghost use Rattle.std.specs.List.{AllZip};
+ghost use Rattle.std.specs.{Prelude.IfOk, Prelude.map, List.AllZip};
 ghost use Rattle.filterset_sources.specs.Suites.{IsCounted, counts};
 
 use crate::list::{RunIgnored, Suite, SuiteStatus};

@@ -1,6 +1,5 @@
 //! Predicates that are banned from filtersets of a kind.
-ghost use Rattle.std.specs.Prelude.{◌≡◌, map, IfOk};
-ghost use Rattle.std.specs.List.{filter, filter_map};
+ghost use Rattle.std.specs.{Prelude.◌≡◌, Prelude.map, Prelude.IfOk, List.filter, List.filter_map};
 ghost use Rattle.nextest_filtering.specs.Bans.{ban, banned, is_banned};
 ghost use Rattle.filterset_grammar.specs.Tree.{tree_leaves};
 ghost use Rattle.filterset_language.specs.Views.{leaf_of, tree_of};

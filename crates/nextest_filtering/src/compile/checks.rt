@@ -2,11 +2,8 @@
 ghost use Rattle.std.specs.Prelude.{◌≡◌, ◌↔◌, Any, IfOk, IsTrue, string_bytes};
 ghost use Rattle.std.specs.HashSet.{keys};
 ghost use Rattle.filterset_graph.specs.Binaries.{IsBinaryId, IsBinaryName};
-ghost use Rattle.filterset_matchers.specs.Matcher.{MatchesName};
-ghost use Rattle.filterset_matchers.specs.Matchers.{matcher_of};
-ghost use Rattle.nextest_filtering.specs.ReadyMatchers.{ready_matcher};
-ghost use Rattle.nextest_filtering.specs.Checks.{MatchesSomeName};
-ghost use Rattle.nextest_filtering.specs.Compiling.{packages_of};
+ghost use Rattle.filterset_matchers.specs.{Matcher.MatchesName, Matchers.matcher_of};
+ghost use Rattle.nextest_filtering.specs.{ReadyMatchers.ready_matcher, Checks.MatchesSomeName, Compiling.packages_of};
 ghost use Rattle.nextest_filtering.specs.Groups.{IsGroupName};
 
 use crate::compile::context::{KnownGroups, ParseContext};

@@ -2,11 +2,9 @@
 ghost use Rattle.std.specs.Prelude.{◌≡◌, ◌≢◌, ◌∷◌, [], IfOk, IsTrue, OnOk};
 ghost use Rattle.filterset_faults.specs.declared.error.ParseSingleError.TheVariants as fault;
 ghost use Rattle.filterset_language.specs.Views.{leaf_of};
-ghost use Rattle.nextest_filtering.specs.Checks.{AddsUnless, AddsUnmatched};
-ghost use Rattle.nextest_filtering.specs.Compiling.{packages_of};
-ghost use Rattle.filterset_expression.specs.Expression.{compiled_leaf};
+ghost use Rattle.nextest_filtering.specs.{Checks.AddsUnless, Checks.AddsUnmatched, Compiling.packages_of};
+ghost use Rattle.filterset_expression.specs.{Expression.compiled_leaf, Meaning.IsCompiledLeaf};
 ghost use Rattle.filterset_expression.specs.Expression as compiled;
-ghost use Rattle.filterset_expression.specs.Meaning.{IsCompiledLeaf};
 
 use crate::compile::checks::{matches_binary_id, matches_binary_name, matches_group};
 use crate::compile::context::{KnownGroups, ParseContext};

@@ -1,9 +1,7 @@
 //! Texts such that each name that a matcher matches contains one of them.
 ghost use Rattle.std.specs.Prelude.{◌≡◌, ◌⊎◌, ◌∷◌, [], IfOk, IfSome, string_bytes};
 ghost use Rattle.filterset_glob.specs.Tokens.{tokens_of};
-ghost use Rattle.filterset_matchers.specs.Literals.{StandsInEach};
-ghost use Rattle.filterset_matchers.specs.Matcher.{Regex};
-ghost use Rattle.filterset_matchers.specs.Matchers.{matcher_of};
+ghost use Rattle.filterset_matchers.specs.{Literals.StandsInEach, Matcher.Regex, Matchers.matcher_of};
 ghost use Rattle.nextest_filtering.specs.Candidates.{OneStandsInNames};
 ghost use Rattle.regex_extract.specs.Needles.{AreFilled, needles_of};
 

@@ -28,8 +28,7 @@ struct Hit {
 }
 
 impl<'g> Members<'g> {
-    ghost use Rattle.nextest_filtering.specs.Candidates.{AreContaining};
-    ghost use Rattle.nextest_filtering.specs.Hits.{IsNextHit, NoneHas};
+    ghost use Rattle.nextest_filtering.specs.{Candidates.AreContaining, Hits.IsNextHit, Hits.NoneHas};
 
     /// Joins the names of these packages. The only error is out of memory.
     pub fn new(alloc: Global, packages: Vec<&'g PackageMetadata>) -> Result<Members<'g>, AllocError>

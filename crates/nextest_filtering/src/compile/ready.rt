@@ -1,8 +1,7 @@
 //! Matchers for many names.
 ghost use Rattle.std.specs.Prelude.{◌≡◌, ◌↔◌, IsTrue, IfOk};
 ghost use Rattle.nextest_filtering.specs.ReadyMatchers.{ready_matcher};
-ghost use Rattle.filterset_matchers.specs.Matcher.{MatchesName};
-ghost use Rattle.filterset_matchers.specs.Matchers.{matcher_of};
+ghost use Rattle.filterset_matchers.specs.{Matcher.MatchesName, Matchers.matcher_of};
 
 use filterset_matchers::{NameMatcher, PatternMatcher};
 use std::alloc::{AllocError, Global};

@@ -1,5 +1,4 @@
-use Rattle.std.proofs.Common.{inr, string_bytes}
-use Rattle.std.proofs.lemmas.Result.{IfErr-weaker, IfOk-weaker}
+use Rattle.std.proofs.{Common.inr, Common.string_bytes, lemmas.Result.IfErr-weaker, lemmas.Result.IfOk-weaker}
 use Rattle.filterset.specs.Requests.{Faults, IsFaultOf}
 use Rattle.filterset_loading.proofs.FaultLemmas.{OrMemory-weaker}
 use Rattle.filterset.proofs.answering.answer.Goals as goal

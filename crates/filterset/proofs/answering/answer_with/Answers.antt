@@ -1,24 +1,18 @@
 use Rattle.std.proofs.Common.{◌≡◌, ℕ, Option, string_bytes, subst, sym}
 use Rattle.std.proofs.lemmas.Result.{IfErr-weaker, IfOk-weaker}
-use Rattle.std.specs.Borrow.{Bor}
-use Rattle.std.specs.declared.io.Error.{Error}
+use Rattle.std.specs.{Borrow.Bor, declared.io.Error.Error}
 use Rattle.filterset_answers.specs.Answers.{FormatsTexts, SimplifiesTexts}
-use Rattle.filterset_entries.specs.Endings.{ending_of}
-use Rattle.filterset_entries.specs.declared.form.Form.{Form}
-use Rattle.filterset_entries.specs.declared.text.Ending.{Ending}
-use Rattle.filterset_drawing.specs.Columns.{Text}
-use Rattle.filterset_drawing.specs.declared.source.Source.{Source}
+use Rattle.filterset_entries.specs.{Endings.ending_of, declared.form.Form.Form, declared.text.Ending.Ending}
+use Rattle.filterset_drawing.specs.{Columns.Text, declared.source.Source.Source}
 use Rattle.filterset_faults.specs.declared.kind.FiltersetKind.{FiltersetKind}
 use Rattle.filterset_faults.specs.declared.kind.FiltersetKind.TheVariants as kinds
 use Rattle.filterset_asking.specs.Checking.{AnswersCheck, IsCheckFault}
-use Rattle.filterset_loading.specs.Files.{content_of}
-use Rattle.filterset.specs.Requests.{Answers, Faults, IsInputFile, rows_of}
-use Rattle.filterset_loading.specs.declared.request.CheckPaths.{CheckPaths}
-use Rattle.filterset_loading.specs.declared.fault.CommandFault.{CommandFault}
-use Rattle.filterset_loading.specs.declared.request.Request.{Request}
+use Rattle.filterset_loading.specs.{Files.content_of, declared.request.CheckPaths.CheckPaths}
+use Rattle.filterset_loading.specs.declared.{fault.CommandFault.CommandFault, request.Request.Request}
 use Rattle.filterset_loading.specs.declared.request.Request.TheVariants.{Check, Format, Simplify}
 use Rattle.filterset_loading.specs.declared.request.Texts.{Texts}
 use Rattle.filterset_loading.proofs.FaultLemmas.{OrMemory-weaker}
+use Rattle.filterset.specs.Requests.{Answers, Faults, IsInputFile, rows_of}
 use Rattle.filterset.proofs.answering.answer_with.Goals as goal
 
 -- the answer to a check is about standard input as this file

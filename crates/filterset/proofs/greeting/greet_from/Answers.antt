@@ -1,10 +1,8 @@
-use Rattle.std.proofs.Common.{ap, inl, inr, refl, Option}
+use Rattle.std.proofs.{Common.ap, Common.inl, Common.inr, Common.refl, Common.Option, lemmas.Result.IfOk-weaker}
 use Rattle.std.specs.Prelude.{option_map}
-use Rattle.std.proofs.lemmas.Result.{IfOk-weaker}
 use Rattle.filterset.specs.Serving.{row_of}
-use Rattle.filterset_loading.specs.Workspaces.{IsWorkspaceFault}
-use Rattle.filterset_loading.specs.declared.workspace.Workspace.{Workspace}
 use Rattle.filterset.proofs.ServingLemmas.{named_fault}
+use Rattle.filterset_loading.specs.{Workspaces.IsWorkspaceFault, declared.workspace.Workspace.Workspace}
 use Rattle.filterset.proofs.greeting.greet_from.Goals as goal
 
 pub returns-in-Ok : goal.returns-in-Ok

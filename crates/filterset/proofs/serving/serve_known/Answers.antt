@@ -1,5 +1,4 @@
-use Rattle.std.proofs.Common.{[], Some, ap}
-use Rattle.std.proofs.KnownBytes.{Consumes-nil}
+use Rattle.std.proofs.{Common.[], Common.Some, Common.ap, KnownBytes.Consumes-nil}
 use Rattle.std.proofs.lemmas.Result.{IfErr-weaker, IfOk-weaker}
 use Rattle.filterset_names.specs.Workspaces.{WorkspaceRow, workspace_row}
 use Rattle.filterset_server.specs.Responses.{says}

@@ -1,5 +1,4 @@
-use Rattle.std.proofs.Common.{List, string_bytes, subst}
-use Rattle.std.proofs.lemmas.Result.{IfOk-weaker}
+use Rattle.std.proofs.{Common.List, Common.string_bytes, Common.subst, lemmas.Result.IfOk-weaker}
 use Rattle.filterset_entries.specs.Checked.{TextRow}
 use Rattle.filterset_asking.specs.Checking.{AnswersCheck}
 use Rattle.filterset.proofs.texts.check_given.Goals as goal

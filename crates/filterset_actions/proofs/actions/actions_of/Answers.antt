@@ -1,12 +1,10 @@
 use Rattle.std.proofs.Common.{◌≡◌, ◌<◌, ap, arith, length, map, option_map, refl, ℕ, subst, ◌∙◌}
-use Rattle.std.proofs.lemmas.List.{length-map}
-use Rattle.std.proofs.lemmas.Option.{slice_get-map, slice_get_read}
+use Rattle.std.proofs.lemmas.{List.length-map, Option.slice_get-map, Option.slice_get_read}
 use Rattle.std.specs.List.{range_with_len}
 use Rattle.serde_json.specs.View.{view}
 use Rattle.filterset_entries.specs.Checked.{text_row}
 use Rattle.filterset_documents.specs.Joins.{Joins, no_parts}
-use Rattle.filterset_actions.specs.Actions.{ActionsAt}
-use Rattle.filterset_actions.specs.Subjects.{subject_row}
+use Rattle.filterset_actions.specs.{Actions.ActionsAt, Subjects.subject_row}
 use Rattle.filterset_actions.proofs.ActionLemmas.{Joins-position}
 use Rattle.filterset_actions.proofs.actions.actions_of.Goals as goal
 

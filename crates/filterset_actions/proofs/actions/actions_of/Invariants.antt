@@ -2,8 +2,7 @@ use Rattle.std.proofs.Common.{map}
 use Rattle.std.specs.List.{range_with_len}
 use Rattle.serde_json.specs.View.{view}
 use Rattle.filterset_documents.specs.Joins.{Joins}
-use Rattle.filterset_actions.specs.Actions.{ActionsAt}
-use Rattle.filterset_actions.specs.Subjects.{subject_row}
+use Rattle.filterset_actions.specs.{Actions.ActionsAt, Subjects.subject_row}
 use Rattle.filterset_actions.proofs.actions.actions_of.Given as goal
 
 -- the filtersets so far have their actions

@@ -1,10 +1,8 @@
-use Rattle.std.proofs.Common.{arith, ◌<◌, length}
-use Rattle.std.proofs.lemmas.List.{take_all}
+use Rattle.std.proofs.{Common.arith, Common.◌<◌, Common.length, lemmas.List.take_all}
 use Rattle.serde_json.specs.View.{view}
 use Rattle.filterset_entries.specs.Placements.{placement_of}
 use Rattle.filterset_documents.specs.Joins.{no_parts}
-use Rattle.filterset_actions.specs.Actions.{FaultActions}
-use Rattle.filterset_actions.specs.Subjects.{subject_row}
+use Rattle.filterset_actions.specs.{Actions.FaultActions, Subjects.subject_row}
 use Rattle.filterset_actions.proofs.ActionLemmas.{Joins-next}
 use Rattle.filterset_actions.proofs.actions.mending_actions.Goals as goal
 

@@ -2,8 +2,7 @@ use Rattle.std.proofs.Common.{map, take}
 use Rattle.serde_json.specs.View.{view}
 use Rattle.filterset_entries.specs.Placements.{placement_of}
 use Rattle.filterset_documents.specs.Joins.{Joins}
-use Rattle.filterset_actions.specs.Actions.{FaultActions}
-use Rattle.filterset_actions.specs.Subjects.{subject_row}
+use Rattle.filterset_actions.specs.{Actions.FaultActions, Subjects.subject_row}
 use Rattle.filterset_actions.proofs.actions.mending_actions.Given as goal
 
 -- the faults so far have their actions

@@ -1,5 +1,4 @@
-use Rattle.std.proofs.Common.{Some}
-use Rattle.std.proofs.lemmas.Result.{IfOk-weaker}
+use Rattle.std.proofs.{Common.Some, lemmas.Result.IfOk-weaker}
 use Rattle.filterset_actions.proofs.actions.new_actions.Goals as goal
 
 pub returns-in-Some : goal.returns-in-Some

@@ -1,11 +1,8 @@
-use Rattle.std.proofs.Common.{Some, map, string_bytes, subst}
-use Rattle.std.proofs.lemmas.Result.{IfOk-weaker}
+use Rattle.std.proofs.{Common.Some, Common.map, Common.string_bytes, Common.subst, lemmas.Result.IfOk-weaker}
 use Rattle.serde_json.specs.View.{view}
 use Rattle.filterset_entries.specs.Placements.{placement_of}
 use Rattle.filterset_editor.specs.Positions.{Text}
-use Rattle.filterset_actions.specs.Actions.{NewActions}
-use Rattle.filterset_actions.specs.Proposals.{proposal_row}
-use Rattle.filterset_actions.specs.Subjects.{subject_row}
+use Rattle.filterset_actions.specs.{Actions.NewActions, Proposals.proposal_row, Subjects.subject_row}
 use Rattle.filterset_actions.proofs.actions.proposal_actions.Goals as goal
 
 pub returns-in-Some : goal.returns-in-Some

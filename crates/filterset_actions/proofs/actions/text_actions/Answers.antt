@@ -1,5 +1,4 @@
-use Rattle.std.proofs.Common.{inl}
-use Rattle.std.proofs.lemmas.Result.{IfOk-weaker}
+use Rattle.std.proofs.{Common.inl, lemmas.Result.IfOk-weaker}
 use Rattle.filterset_language.specs.Views.{tree_of}
 use Rattle.filterset_actions.proofs.actions.text_actions.Goals as goal
 

@@ -7,8 +7,7 @@ use Rattle.filterset_editor.specs.Positions.{Text}
 use Rattle.filterset_grammar.specs.Printing.{printed}
 use Rattle.filterset_language.specs.Views.{tree_of}
 use Rattle.filterset_rewriting.specs.Showing.{shown}
-use Rattle.filterset_actions.specs.Actions.{RewriteActions}
-use Rattle.filterset_actions.specs.Subjects.{subject_row}
+use Rattle.filterset_actions.specs.{Actions.RewriteActions, Subjects.subject_row}
 use Rattle.filterset_actions.proofs.actions.tree_actions.Goals as goal
 
 pub returns : goal.returns

@@ -1,5 +1,4 @@
-use Rattle.std.proofs.Common.{None, Some, refl}
-use Rattle.std.proofs.lemmas.Result.{IfOk-weaker}
+use Rattle.std.proofs.{Common.None, Common.Some, Common.refl, lemmas.Result.IfOk-weaker}
 use Rattle.filterset_actions.proofs.changes.choose_change.Goals as goal
 
 pub returns-in-Some : goal.returns-in-Some

@@ -1,7 +1,5 @@
 use Rattle.std.proofs.Common.{arith, ap, length, map, slice_set, string_bytes}
-use Rattle.std.proofs.lemmas.List.{length-map}
-use Rattle.std.proofs.Math.ListN.{length-set}
-use Rattle.std.proofs.lemmas.Result.{IfOk-weaker}
+use Rattle.std.proofs.{lemmas.List.length-map, Math.ListN.length-set, lemmas.Result.IfOk-weaker}
 use Rattle.filterset_entries.specs.Checked.{text_row}
 use Rattle.filterset_actions.specs.Changes.{texts_of}
 use Rattle.filterset_actions.proofs.ActionLemmas.{now_of, text_in}

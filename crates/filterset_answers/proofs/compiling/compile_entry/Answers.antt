@@ -1,7 +1,6 @@
 use Rattle.std.proofs.Common.{rules, ◌≡◌, map, subst}
 use Rattle.filterset_drawing.specs.Remarks.{remark_row}
-use Rattle.filterset_entries.specs.Checked.{all_remarks, text_row}
-use Rattle.filterset_entries.specs.Forms.{FaultPieces}
+use Rattle.filterset_entries.specs.{Checked.all_remarks, Checked.text_row, Forms.FaultPieces}
 use Rattle.filterset_answers.proofs.compiling.compile_entry.Goals as goal
 
 pub returns-in_ok-push_faults-in-Err : goal.returns-in_ok-push_faults-in-Err

@@ -1,10 +1,8 @@
 use Rattle.std.proofs.Common.{◌++◌, false, map, refl, string_bytes, subst}
 use Rattle.filterset_answers.specs.Answers.{FaultsOf}
-use Rattle.filterset_entries.specs.Checked.{HasRefusal, text_row}
-use Rattle.filterset_entries.specs.Entries.{setting_rows}
 use Rattle.filterset_answers.proofs.CompilingLemmas.{empty_log}
-use Rattle.filterset_answers.specs.declared.compiling.Compiler.{Compiler}
-use Rattle.filterset_answers.specs.declared.compiling.FaultLog.{FaultLog}
+use Rattle.filterset_answers.specs.declared.compiling.{Compiler.Compiler, FaultLog.FaultLog}
+use Rattle.filterset_entries.specs.{Checked.HasRefusal, Checked.text_row, Entries.setting_rows}
 use Rattle.filterset_answers.proofs.compiling.compile_texts.Goals as goal
 
 pub returns : goal.returns

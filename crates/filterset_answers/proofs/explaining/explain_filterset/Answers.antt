@@ -1,5 +1,4 @@
-use Rattle.std.proofs.Common.{◌∷◌, [], inl, subst}
-use Rattle.std.proofs.lemmas.Result.{IfOk-weaker}
+use Rattle.std.proofs.{Common.◌∷◌, Common.[], Common.inl, Common.subst, lemmas.Result.IfOk-weaker}
 use Rattle.filterset_answers.specs.Compiled.{AreFiltersets}
 use Rattle.filterset_answers.proofs.explaining.explain_filterset.Goals as goal
 

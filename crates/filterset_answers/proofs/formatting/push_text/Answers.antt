@@ -6,9 +6,8 @@ use Rattle.filterset_grammar.specs.Printing.{printed}
 use Rattle.filterset_language.specs.Views.{tree_of}
 use Rattle.filterset_rewriting.specs.Reading.{IsRead, IsUnreadFor}
 use Rattle.filterset_answers.specs.Answers.{IsRewritten}
-use Rattle.filterset_entries.specs.Checked.{all_remarks, text_row}
-use Rattle.filterset_entries.specs.Forms.{FaultPieces}
 use Rattle.filterset_answers.proofs.AnswersLemmas.{unread_some}
+use Rattle.filterset_entries.specs.{Checked.all_remarks, Checked.text_row, Forms.FaultPieces}
 use Rattle.filterset_answers.proofs.formatting.push_text.Goals as goal
 
 pub returns-in_ok-writeln-in-Ok : goal.returns-in_ok-writeln-in-Ok

@@ -1,11 +1,10 @@
 use Rattle.std.proofs.Common.{rules, arith, ◌∷◌, [], filter, get_or, length, subst, sym, take}
-use Rattle.std.proofs.lemmas.List.{length_push, take_all}
-use Rattle.std.proofs.lemmas.List.Elements.{filter-append}
+use Rattle.std.proofs.lemmas.List.{length_push, take_all, Elements.filter-append}
 use Rattle.std.proofs.lemmas.Slice.Zip.{AllZip-long, zip_end, zip_turn}
 use Rattle.filterset_configuration.proofs.Zips.{zip_append}
 use Rattle.filterset_answers.specs.Compiled.{IsFilterFor, IsOverrideFor, sets_group}
-use Rattle.filterset_entries.proofs.RowsLemmas.{one_more}
 use Rattle.filterset_answers.proofs.GroupingLemmas.{zipped_at}
+use Rattle.filterset_entries.proofs.RowsLemmas.{one_more}
 use Rattle.filterset_answers.proofs.grouping.group_overrides.Goals as goal
 
 pub loop-entry-preserved : goal.loop-entry-preserved

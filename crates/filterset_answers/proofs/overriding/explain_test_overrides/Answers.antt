@@ -1,5 +1,4 @@
-use Rattle.std.proofs.Common.{inl}
-use Rattle.std.proofs.lemmas.Result.{IfOk-weaker}
+use Rattle.std.proofs.{Common.inl, lemmas.Result.IfOk-weaker}
 use Rattle.filterset_answers.proofs.overriding.explain_test_overrides.Goals as goal
 
 pub returns-in-Filtersets : goal.returns-in-Filtersets

@@ -1,5 +1,4 @@
-use Rattle.std.proofs.Common.{string_bytes}
-use Rattle.std.proofs.lemmas.Result.{IfOk-weaker}
+use Rattle.std.proofs.{Common.string_bytes, lemmas.Result.IfOk-weaker}
 use Rattle.filterset_expression.specs.Contexts.{default_of}
 use Rattle.filterset_answers.proofs.OverridingLemmas.{filter_reason, no_reason}
 use Rattle.filterset_answers.proofs.overriding.reason_of.Goals as goal

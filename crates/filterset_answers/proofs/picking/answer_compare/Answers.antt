@@ -1,9 +1,7 @@
 use Rattle.std.proofs.Common.{List, map, string_bytes, subst, sym}
 use Rattle.std.specs.List.{AllZip}
-use Rattle.filterset_expression.specs.Meaning.{IsCompiled}
-use Rattle.filterset_expression.specs.declared.expression.CompiledExpr.{CompiledExpr}
-use Rattle.filterset_listing.specs.Comparing.{IsBinaryDifference}
-use Rattle.filterset_listing.specs.Pickers.{tree_picker}
+use Rattle.filterset_expression.specs.{Meaning.IsCompiled, declared.expression.CompiledExpr.CompiledExpr}
+use Rattle.filterset_listing.specs.{Comparing.IsBinaryDifference, Pickers.tree_picker}
 use Rattle.filterset_listing.specs.declared.groups.GroupOverride.{GroupOverride}
 use Rattle.filterset_answers.specs.Picking.{Compares, compiled_of, parsed_of}
 use Rattle.filterset_answers.proofs.PickingLemmas.{two_of}

@@ -1,12 +1,9 @@
-use Rattle.std.proofs.Common.{map, string_bytes, subst, sym}
-use Rattle.std.specs.Prelude.{option_map}
-use Rattle.std.specs.List.{AllZip}
-use Rattle.std.proofs.lemmas.Result.{IfOk-weaker}
+use Rattle.std.proofs.{Common.map, Common.string_bytes, Common.subst, Common.sym, lemmas.Result.IfOk-weaker}
+use Rattle.std.specs.{List.AllZip, Prelude.option_map}
 use Rattle.serde_json.specs.View.{view}
-use Rattle.filterset_answers.specs.Compiled.{IsAskedFor}
-use Rattle.filterset_entries.specs.Entries.{question_rows}
-use Rattle.filterset_answers.specs.Picking.{Tells, parsed_of}
+use Rattle.filterset_answers.specs.{Compiled.IsAskedFor, Picking.Tells, Picking.parsed_of}
 use Rattle.filterset_answers.proofs.PickingLemmas.{basis_of, compiled_trees, trees_of}
+use Rattle.filterset_entries.specs.Entries.{question_rows}
 use Rattle.filterset_answers.proofs.picking.answer_question.Goals as goal
 
 pub returns-in-List : goal.returns-in-List

@@ -1,6 +1,5 @@
 use Rattle.std.proofs.Common.{rules, ◌≡◌, ◌∙◌, ◌++◌, ◌∷◌, [], ap, map, subst, sym}
-use Rattle.std.proofs.lemmas.Iterator.Adapters.{YieldsList-from_vec}
-use Rattle.std.proofs.lemmas.Iterator.Consumers.{YieldsList-end}
+use Rattle.std.proofs.lemmas.Iterator.{Adapters.YieldsList-from_vec, Consumers.YieldsList-end}
 use Rattle.std.proofs.lemmas.List.{map-append, map-id}
 use Rattle.filterset_answers.specs.Picking.{compiled_of}
 use Rattle.filterset_answers.proofs.picks.expressions_of.Goals as goal

@@ -1,13 +1,8 @@
-use Rattle.std.proofs.Common.{◌≡◌, List, false, subst, sym}
-use Rattle.std.proofs.lemmas.Result.{IfOk-weaker}
+use Rattle.std.proofs.{Common.◌≡◌, Common.List, Common.false, Common.subst, Common.sym, lemmas.Result.IfOk-weaker}
 use Rattle.std.specs.List.{AllZip}
-use Rattle.filterset_expression.specs.Contexts.{default_of}
-use Rattle.filterset_expression.specs.Expression.{has_leaf, is_default}
-use Rattle.filterset_expression.specs.Meaning.{IsCompiled}
-use Rattle.filterset_expression.specs.declared.expression.CompiledExpr.{CompiledExpr}
-use Rattle.filterset_listing.specs.Asking.{ExprCanPick, ExprPicks}
-use Rattle.filterset_listing.specs.Groups.{Says}
-use Rattle.filterset_listing.specs.Listing.{IsBinaryPicks}
+use Rattle.filterset_expression.specs.{Contexts.default_of, Expression.has_leaf, Expression.is_default}
+use Rattle.filterset_expression.specs.{Meaning.IsCompiled, declared.expression.CompiledExpr.CompiledExpr}
+use Rattle.filterset_listing.specs.{Asking.ExprCanPick, Asking.ExprPicks, Groups.Says, Listing.IsBinaryPicks}
 use Rattle.filterset_listing.specs.Selection.{RunCanPick, RunPicks}
 use Rattle.filterset_listing.specs.declared.groups.GroupOverride.{GroupOverride}
 use Rattle.filterset_listing.proofs.PicksLemmas.{all_picks_alike}

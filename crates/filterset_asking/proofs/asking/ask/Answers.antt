@@ -2,9 +2,7 @@ use Rattle.std.proofs.Common.{◌⊎◌, inl, inr}
 use Rattle.std.proofs.lemmas.Result.{IfErr-weaker, IfOk-weaker, err_from_is_err_and}
 use Rattle.serde_json.specs.View.{view}
 use Rattle.filterset_asking.specs.Asking.{IsAskedFault, LacksIn}
-use Rattle.filterset_loading.specs.Configurations.{IsProfileFault}
-use Rattle.filterset_loading.specs.Files.{name_of}
-use Rattle.filterset_loading.specs.Workspaces.{IsPlatformsFault}
+use Rattle.filterset_loading.specs.{Configurations.IsProfileFault, Files.name_of, Workspaces.IsPlatformsFault}
 use Rattle.filterset_loading.specs.declared.fault.CommandFault.{CommandFault}
 use Rattle.filterset_loading.proofs.FaultLemmas.{OrMemory-weaker}
 use Rattle.filterset_asking.proofs.asking.ask.Goals as goal

@@ -1,8 +1,7 @@
 use Rattle.std.proofs.Common.{◌∙◌, Option, ap, codes, option_map, subst, sym, unwrap_or}
 use Rattle.std.proofs.lemmas.Result.{IfOk-weaker}
 use Rattle.filterset_entries.specs.Checked.{TextRow, text_row}
-use Rattle.filterset_entries.specs.Entries.{default_row}
-use Rattle.filterset_entries.specs.declared.text.TextEntry.{TextEntry}
+use Rattle.filterset_entries.specs.{Entries.default_row, declared.text.TextEntry.TextEntry}
 use Rattle.nextest_filtering.specs.Groups.{IsGlobalOnly}
 use Rattle.filterset_asking.proofs.asking.ask_plainly.Goals as goal
 

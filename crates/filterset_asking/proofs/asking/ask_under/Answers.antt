@@ -1,5 +1,4 @@
-use Rattle.std.proofs.Common.{refl}
-use Rattle.std.proofs.lemmas.Result.{IfErr-weaker, IfOk-weaker}
+use Rattle.std.proofs.{Common.refl, lemmas.Result.IfErr-weaker, lemmas.Result.IfOk-weaker}
 use Rattle.filterset_entries.specs.declared.setting.Setting.{Setting}
 use Rattle.filterset_asking.specs.Asking.{Lacks, LacksOf}
 use Rattle.filterset_loading.specs.Files.{name_of}

@@ -1,5 +1,4 @@
-use Rattle.std.proofs.Common.{◌++◌, map, ap, ◌∙◌}
-use Rattle.std.proofs.lemmas.List.{map-append}
+use Rattle.std.proofs.{Common.◌++◌, Common.map, Common.ap, Common.◌∙◌, lemmas.List.map-append}
 use Rattle.filterset_entries.specs.Checked.{text_row}
 use Rattle.filterset_asking.proofs.checking.all_entries.Goals as goal
 

@@ -2,8 +2,7 @@ use Rattle.std.proofs.Common.{List, [], ◌∷◌, inl, string_bytes}
 use Rattle.std.proofs.lemmas.Result.{err_from_is_err_and}
 use Rattle.std.specs.Prelude.{IsSomeAnd, Option}
 use Rattle.filterset_configuration.specs.declared.wrong.WrongValue.{WrongValue}
-use Rattle.filterset_asking.specs.Checking.{IsUnchecked}
-use Rattle.filterset_asking.specs.Warned.{IsWarnedFault, request_after}
+use Rattle.filterset_asking.specs.{Checking.IsUnchecked, Warned.IsWarnedFault, Warned.request_after}
 use Rattle.filterset_loading.specs.declared.request.WarningRequest.{WarningRequest}
 use Rattle.filterset_loading.proofs.FaultLemmas.{OrMemory-weaker}
 use Rattle.filterset_asking.proofs.checking.check_all.Goals as goal

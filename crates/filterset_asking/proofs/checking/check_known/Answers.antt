@@ -1,7 +1,6 @@
 use Rattle.std.proofs.Common.{ℕ, zero, suc, ◌+◌, ◌==◌, ◌≡◌, ◌∙◌, ap, arith, false, length, string_bytes}
 use Rattle.std.specs.Prelude.{IfOk, Ok, Err, Result, if◌then◌else◌}
-use Rattle.filterset_entries.specs.Endings.{ending_of}
-use Rattle.filterset_entries.specs.declared.text.Ending.TheVariants.{Faulty}
+use Rattle.filterset_entries.specs.{Endings.ending_of, declared.text.Ending.TheVariants.Faulty}
 use Rattle.filterset_asking.proofs.checking.check_known.Goals as goal
 
 not_none : (n : ℕ) → (suc n == 0) ≡ false

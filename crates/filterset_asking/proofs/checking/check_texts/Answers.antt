@@ -1,12 +1,9 @@
 use Rattle.std.proofs.Common.{rules, ◌≡◌, ◌∙◌, List, ap, inr, string_bytes, subst, sym}
 use Rattle.std.proofs.lemmas.Result.{IfErr-weaker, IfOk-weaker}
-use Rattle.std.specs.Borrow.{Bor}
-use Rattle.std.specs.Prelude.{IfSome, None, Option, Some, is_some}
-use Rattle.filterset_drawing.specs.Columns.{Text}
-use Rattle.filterset_drawing.specs.declared.source.Source.{Source}
+use Rattle.std.specs.{Borrow.Bor, Prelude.IfSome, Prelude.None, Prelude.Option, Prelude.Some, Prelude.is_some}
+use Rattle.filterset_drawing.specs.{Columns.Text, declared.source.Source.Source}
 use Rattle.filterset_configuration.specs.declared.place.Place.{Place}
-use Rattle.filterset_sources.specs.Configurations.{IsConfiguration}
-use Rattle.filterset_sources.specs.declared.configuration.Configuration.{Configuration}
+use Rattle.filterset_sources.specs.{Configurations.IsConfiguration, declared.configuration.Configuration.Configuration}
 use Rattle.filterset_asking.specs.Checking.{IsCheckFault, IsUnchecked, KnownConfiguration}
 use Rattle.filterset_loading.proofs.FaultLemmas.{OrMemory-weaker}
 use Rattle.filterset_asking.proofs.checking.check_texts.Goals as goal

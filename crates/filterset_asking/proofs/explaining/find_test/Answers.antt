@@ -1,5 +1,4 @@
-use Rattle.std.proofs.Common.{Some}
-use Rattle.std.proofs.lemmas.Result.{err_from_is_err_and}
+use Rattle.std.proofs.{Common.Some, lemmas.Result.err_from_is_err_and}
 use Rattle.filterset_asking.proofs.explaining.find_test.Goals as goal
 
 pub returns-in_err-binary-clause-missing : goal.returns-in_err-binary-clause-missing

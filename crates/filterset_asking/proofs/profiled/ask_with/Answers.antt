@@ -1,8 +1,7 @@
 use Rattle.std.proofs.Common.{◌∙◌, List, ap, map, subst, sym}
 use Rattle.std.specs.List.{AllZip}
 use Rattle.std.proofs.lemmas.Result.{IfOk-weaker}
-use Rattle.filterset_entries.specs.Checked.{text_row}
-use Rattle.filterset_entries.specs.Profile.{IsEntryOf, IsProfileOf}
+use Rattle.filterset_entries.specs.{Checked.text_row, Profile.IsEntryOf, Profile.IsProfileOf}
 use Rattle.filterset_entries.specs.declared.setting.OverrideEntry.{OverrideEntry}
 use Rattle.filterset_overrides.specs.declared.asked.AskedProfile.{AskedProfile}
 use Rattle.filterset_asking.proofs.profiled.ask_with.Goals as goal

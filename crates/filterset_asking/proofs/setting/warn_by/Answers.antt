@@ -2,11 +2,9 @@ use Rattle.std.proofs.Common.{◌∙◌, ◌+◌, List, [], ◌++◌, ap, inl, m
 use Rattle.filterset_entries.specs.Checked.{text_row}
 use Rattle.filterset_answers.proofs.PickingLemmas.{basis_of}
 use Rattle.filterset_drawing.specs.Columns.{Text}
-use Rattle.filterset_expression.specs.Contexts.{default_of}
-use Rattle.filterset_expression.specs.declared.expression.CompiledExpr.{CompiledExpr}
+use Rattle.filterset_expression.specs.{Contexts.default_of, declared.expression.CompiledExpr.CompiledExpr}
 use Rattle.filterset_graph.specs.declared.package.PackageMetadata.{PackageMetadata}
-use Rattle.filterset_listing.specs.Subjects.{AreSubjects}
-use Rattle.filterset_listing.specs.declared.groups.GroupOverride.{GroupOverride}
+use Rattle.filterset_listing.specs.{Subjects.AreSubjects, declared.groups.GroupOverride.GroupOverride}
 use Rattle.filterset_asking.specs.Warnings.{WarningsOf, summary}
 use Rattle.filterset_asking.proofs.setting.warn_by.Goals as goal
 

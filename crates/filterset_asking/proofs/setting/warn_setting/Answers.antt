@@ -1,8 +1,6 @@
-use Rattle.std.proofs.Common.{inr, refl, string_bytes, subst}
-use Rattle.std.proofs.lemmas.List.{append-nil}
+use Rattle.std.proofs.{Common.inr, Common.refl, Common.string_bytes, Common.subst, lemmas.List.append-nil}
 use Rattle.filterset_answers.specs.Answers.{FaultsOf}
-use Rattle.filterset_entries.specs.Checked.{HasRefusal}
-use Rattle.filterset_entries.specs.Entries.{setting_rows}
+use Rattle.filterset_entries.specs.{Checked.HasRefusal, Entries.setting_rows}
 use Rattle.filterset_asking.proofs.setting.warn_setting.Goals as goal
 
 pub returns-in-Faults : goal.returns-in-Faults

@@ -1,5 +1,4 @@
-use Rattle.std.proofs.Common.{arith, ◌≡◌, ap, length, map}
-use Rattle.std.proofs.lemmas.List.{length-map}
+use Rattle.std.proofs.{Common.arith, Common.◌≡◌, Common.ap, Common.length, Common.map, lemmas.List.length-map}
 use Rattle.nextest_filtering.specs.Compiling.{packages_of}
 use Rattle.filterset_drawing.specs.Remarks.{remark_row}
 use Rattle.filterset_listing.specs.Finding.{found_of, unmatched_of}

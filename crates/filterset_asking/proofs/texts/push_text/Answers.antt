@@ -1,5 +1,4 @@
-use Rattle.std.proofs.Common.{rules, [], refl, sym}
-use Rattle.std.proofs.lemmas.List.{append-nil}
+use Rattle.std.proofs.{Common.rules, Common.[], Common.refl, Common.sym, lemmas.List.append-nil}
 use Rattle.filterset_asking.specs.Warnings.{of_faulty}
 use Rattle.filterset_asking.proofs.texts.push_text.Goals as goal
 

@@ -1,11 +1,10 @@
 use Rattle.std.proofs.Common.{rules, arith, ◌≡◌, ◌+◌, ◌<◌, [], ◌++◌, length, get_or, map, subst, sym, take}
 use Rattle.std.proofs.lemmas.List.{append-nil}
 use Rattle.filterset_entries.specs.Checked.{text_row}
-use Rattle.filterset_answers.proofs.AnswersLemmas.{next_number}
 use Rattle.filterset_entries.proofs.RowsLemmas.{rows_more}
+use Rattle.filterset_answers.proofs.AnswersLemmas.{next_number}
 use Rattle.filterset_json.proofs.PieceLemmas.{added_twice}
-use Rattle.filterset_asking.specs.Contexts.{basis_of}
-use Rattle.filterset_asking.specs.Warnings.{TextWarnings, no_texts}
+use Rattle.filterset_asking.specs.{Contexts.basis_of, Warnings.TextWarnings, Warnings.no_texts}
 use Rattle.filterset_asking.proofs.WarningLemmas.{WarningsOf-push}
 use Rattle.filterset_asking.proofs.texts.warn_texts.Goals as goal
 

@@ -1,10 +1,7 @@
-use Rattle.std.proofs.Common.{◌⊎◌, inl, inr}
-use Rattle.std.proofs.lemmas.Result.{IfErr-weaker, IfOk-weaker}
+use Rattle.std.proofs.{Common.◌⊎◌, Common.inl, Common.inr, lemmas.Result.IfErr-weaker, lemmas.Result.IfOk-weaker}
 use Rattle.serde_json.specs.View.{view}
-use Rattle.filterset_asking.specs.Asking.{Lacks}
-use Rattle.filterset_loading.specs.Configurations.{LacksProfile}
-use Rattle.filterset_asking.specs.Warned.{IsProfileUnused}
-use Rattle.filterset_loading.specs.declared.fault.CommandFault.{CommandFault}
+use Rattle.filterset_asking.specs.{Asking.Lacks, Warned.IsProfileUnused}
+use Rattle.filterset_loading.specs.{Configurations.LacksProfile, declared.fault.CommandFault.CommandFault}
 use Rattle.filterset_loading.proofs.FaultLemmas.{OrMemory-weaker}
 use Rattle.filterset_asking.proofs.warning.warn_configured.Goals as goal
 

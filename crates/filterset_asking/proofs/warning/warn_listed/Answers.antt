@@ -1,13 +1,8 @@
-use Rattle.std.proofs.Common.{◌⊎◌, inl, inr}
-use Rattle.std.proofs.lemmas.Result.{IfErr-weaker, IfOk-weaker}
+use Rattle.std.proofs.{Common.◌⊎◌, Common.inl, Common.inr, lemmas.Result.IfErr-weaker, lemmas.Result.IfOk-weaker}
 use Rattle.serde_json.specs.View.{view}
-use Rattle.filterset_asking.specs.Asking.{LacksIn}
-use Rattle.filterset_loading.specs.Files.{name_of}
-use Rattle.filterset_asking.specs.Warned.{IsListedFault, IsProfileUnused}
-use Rattle.filterset_loading.specs.Configurations.{profile_at}
-use Rattle.filterset_loading.specs.declared.request.Asked.{Asked}
-use Rattle.filterset_loading.specs.declared.request.Asked.TheVariants.{Warnings}
-use Rattle.filterset_loading.specs.declared.fault.CommandFault.{CommandFault}
+use Rattle.filterset_asking.specs.{Asking.LacksIn, Warned.IsListedFault, Warned.IsProfileUnused}
+use Rattle.filterset_loading.specs.{Files.name_of, Configurations.profile_at, declared.request.Asked.Asked}
+use Rattle.filterset_loading.specs.declared.{request.Asked.TheVariants.Warnings, fault.CommandFault.CommandFault}
 use Rattle.filterset_loading.proofs.FaultLemmas.{OrMemory-weaker}
 use Rattle.filterset_asking.proofs.warning.warn_listed.Goals as goal
 

@@ -1,10 +1,7 @@
 use Rattle.std.proofs.Common.{◌↔◌, ◌∙◌, IsTrue, Some, ap, refl, subst}
 use Rattle.filterset_expression.specs.Expression.{Lookup, with_default}
-use Rattle.filterset_expression.specs.FlatExpressions.{IsTold}
-use Rattle.filterset_expression.specs.Meaning.{Meaning}
-use Rattle.filterset_expression.specs.declared.query.TestQuery.{TestQuery}
-use Rattle.filterset_expression.proofs.LeafAnswers.{told_of_test}
-use Rattle.filterset_expression.proofs.Meanings.{compiled_means}
+use Rattle.filterset_expression.specs.{FlatExpressions.IsTold, Meaning.Meaning, declared.query.TestQuery.TestQuery}
+use Rattle.filterset_expression.proofs.{LeafAnswers.told_of_test, Meanings.compiled_means}
 use Rattle.filterset_c.specs.Queries.{matches_named}
 use Rattle.filterset_c.proofs.matching.flat_number.OwnLists.{reads-GroupLookup-matches_group-1-1}
 use Rattle.filterset_c.proofs.matching.flat_number.Goals as goal

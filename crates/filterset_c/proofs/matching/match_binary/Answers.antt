@@ -1,6 +1,5 @@
 use Rattle.std.proofs.Common.{◌≡◌, ◌↔◌, Bool, Some, subst}
-use Rattle.filterset_expression.specs.BinaryMeaning.{IsDefiniteTree}
-use Rattle.filterset_expression.specs.declared.expression.CompiledExpr.{CompiledExpr}
+use Rattle.filterset_expression.specs.{BinaryMeaning.IsDefiniteTree, declared.expression.CompiledExpr.CompiledExpr}
 use Rattle.filterset_language.specs.Views.{tree_of}
 use Rattle.filterset_c.proofs.matching.match_binary.Goals as goal
 

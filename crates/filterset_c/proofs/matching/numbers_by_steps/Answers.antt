@@ -1,9 +1,6 @@
-use Rattle.std.proofs.Common.{arith, ◌<◌, [], length, subst}
-use Rattle.std.proofs.lemmas.List.{take_more}
-use Rattle.filterset_expression.specs.FlatExpressions.{IsFlat}
-use Rattle.filterset_expression.specs.declared.expression.CompiledExpr.{CompiledExpr}
-use Rattle.filterset_c.specs.Answers.{IsTestNumber}
-use Rattle.filterset_c.specs.declared.queries.Test.{Test}
+use Rattle.std.proofs.{Common.arith, Common.◌<◌, Common.[], Common.length, Common.subst, lemmas.List.take_more}
+use Rattle.filterset_expression.specs.{FlatExpressions.IsFlat, declared.expression.CompiledExpr.CompiledExpr}
+use Rattle.filterset_c.specs.{Answers.IsTestNumber, declared.queries.Test.Test}
 use Rattle.filterset_c.proofs.Numbers.{AllZip-more, number_of_steps}
 use Rattle.filterset_c.proofs.matching.numbers_by_steps.Goals as goal
 

@@ -1,8 +1,6 @@
 use Rattle.std.proofs.Common.{take}
 use Rattle.std.specs.List.{AllZip}
-use Rattle.filterset_c.specs.Answers.{IsTestNumber}
-use Rattle.filterset_c.specs.Queries.{IsAbout}
-use Rattle.filterset_c.specs.declared.queries.Binary.{Binary}
+use Rattle.filterset_c.specs.{Answers.IsTestNumber, Queries.IsAbout, declared.queries.Binary.Binary}
 use Rattle.filterset_c.proofs.matching.numbers_by_steps.Given as goal
 
 -- the tests so far have their numbers

@@ -1,5 +1,4 @@
-use Rattle.std.proofs.Common.{arith}
-use Rattle.std.proofs.lemmas.Slice.Zip.{AllZip-long}
+use Rattle.std.proofs.{Common.arith, lemmas.Slice.Zip.AllZip-long}
 use Rattle.filterset_c.specs.Answers.{IsTestNumber}
 use Rattle.filterset_c.proofs.matching.test_numbers.Goals as goal
 

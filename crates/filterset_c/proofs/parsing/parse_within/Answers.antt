@@ -1,8 +1,7 @@
 use Rattle.std.proofs.Common.{Option, subst}
 use Rattle.std.specs.Prelude.{IfNone}
 use Rattle.filterset_rewriting.specs.Nesting.Depth.{depth}
-use Rattle.filterset_c.specs.Parsing.{IsWithin}
-use Rattle.filterset_c.specs.declared.faults.Span.{Span}
+use Rattle.filterset_c.specs.{Parsing.IsWithin, declared.faults.Span.Span}
 use Rattle.filterset_c.proofs.Limits.{limited}
 use Rattle.filterset_c.proofs.parsing.parse_within.Goals as goal
 

@@ -1,6 +1,5 @@
 use Rattle.std.proofs.Common.{◌≡◌, ℕ, List, Some, refl, subst}
-use Rattle.serde_json.specs.Read.{read}
-use Rattle.serde_json.specs.View.{view}
+use Rattle.serde_json.specs.{Read.read, View.view}
 use Rattle.filterset_c.proofs.workspaces.workspace_of_metadata.Goals as goal
 
 pub returns-clause-made : goal.returns-clause-made

@@ -2,14 +2,12 @@ use Rattle.std.proofs.Common.{arith, ◌≡◌, ◌<◌, ◌∙◌, List, ap, le
 use Rattle.filterset_expression.specs.Expression.{CompiledLeaf, HoldsOfTest, Lookup, compiled_leaf, formula, leaf_with_default}
 use Rattle.filterset_expression.specs.Formula.{Compound, Formula, Leaf, TrueWhere, leaves, replaced}
 use Rattle.filterset_expression.specs.Formula as formulas
-use Rattle.filterset_columns.specs.Columns.{names_of, test_of, AnsweredWhere}
-use Rattle.filterset_columns.specs.Operators.{applied}
-use Rattle.filterset_columns.specs.contracts.evaluating.evaluate_where as clauses
-use Rattle.filterset_columns.specs.contracts.evaluating.evaluate_where.dyn-1 as dyn
-use Rattle.filterset_columns.specs.declared.operators.Operator.{Operator}
-use Rattle.filterset_columns.specs.declared.operators.Operator.TheVariants.{Negation, Binary}
+use Rattle.filterset_columns.specs.{Columns.names_of, Columns.test_of, Columns.AnsweredWhere, Operators.applied}
+use Rattle.filterset_columns.specs.declared.operators.Operator.{Operator, TheVariants.Negation, TheVariants.Binary}
 use Rattle.filterset_columns.proofs.ColumnLemmas.{all_negated, both_combined}
 use Rattle.filterset_columns.proofs.OperatorLemmas.{none_left, popped, right_below}
+use Rattle.filterset_columns.specs.contracts.evaluating.evaluate_where as clauses
+use Rattle.filterset_columns.specs.contracts.evaluating.evaluate_where.dyn-1 as dyn
 use Rattle.filterset_columns.proofs.evaluating.+evaluate_where.Goals as goal
 
 pub loop-operator-init : goal.loop-operator-init

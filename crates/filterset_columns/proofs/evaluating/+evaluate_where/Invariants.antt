@@ -1,8 +1,7 @@
 use Rattle.std.proofs.Common.{◌≡◌, length}
 use Rattle.filterset_expression.specs.Expression.{CompiledLeaf, HoldsOfTest, formula, leaf_with_default}
 use Rattle.filterset_expression.specs.Formula.{Formula, TrueWhere, leaves, replaced}
-use Rattle.filterset_columns.specs.Columns.{names_of, test_of, AnsweredWhere}
-use Rattle.filterset_columns.specs.Operators.{applied}
+use Rattle.filterset_columns.specs.{Columns.names_of, Columns.test_of, Columns.AnsweredWhere, Operators.applied}
 use Rattle.filterset_columns.specs.contracts.evaluating.evaluate_where as clauses
 use Rattle.filterset_columns.specs.contracts.evaluating.evaluate_where.dyn-1 as dyn
 use Rattle.filterset_columns.proofs.evaluating.+evaluate_where.Given as goal

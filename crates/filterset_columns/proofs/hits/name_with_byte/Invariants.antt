@@ -1,6 +1,5 @@
 use Rattle.std.proofs.Common.{◌≡◌, ◌+◌, ◌-◌, ◌<◌, ◌≤◌, length}
-use Rattle.filterset_columns.specs.Columns.{names_of}
-use Rattle.filterset_columns.specs.Joined.{offset}
+use Rattle.filterset_columns.specs.{Columns.names_of, Joined.offset}
 use Rattle.filterset_columns.proofs.hits.name_with_byte.Given as goal
 
 abbrev pub decreases-loop-end : goal.decreases-loop-end

@@ -1,6 +1,5 @@
 use Rattle.std.proofs.Common.{◌≡◌, ◌+◌, ◌/◌, length, vec_len}
-use Rattle.filterset_columns.specs.Columns.{names_of}
-use Rattle.filterset_columns.specs.Searching.{AnsweredSoFar}
+use Rattle.filterset_columns.specs.{Columns.names_of, Searching.AnsweredSoFar}
 use Rattle.filterset_columns.proofs.search.find_name.Given as goal
 
 abbrev pub invariant-loop-position : goal.invariant-loop-position

@@ -1,9 +1,7 @@
 use Rattle.std.proofs.Common.{◌∙◌, ℕ, List, length, refl, subst}
 use Rattle.std.specs.Str.Iter.{HasSubslice}
-use Rattle.filterset_columns.specs.Columns.{names_of}
-use Rattle.filterset_columns.specs.Hits.{IsNextHit, NoneHas}
-use Rattle.filterset_columns.proofs.ColumnLemmas.{passed_over}
-use Rattle.filterset_columns.proofs.HitLemmas.{hit_answered, hit_place}
+use Rattle.filterset_columns.specs.{Columns.names_of, Hits.IsNextHit, Hits.NoneHas}
+use Rattle.filterset_columns.proofs.{ColumnLemmas.passed_over, HitLemmas.hit_answered, HitLemmas.hit_place}
 use Rattle.filterset_columns.proofs.search.find_some_text.Goals as goal
 
 pub loop-hit-preserved : goal.loop-hit-preserved

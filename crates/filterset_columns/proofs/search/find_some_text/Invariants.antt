@@ -1,8 +1,6 @@
 use Rattle.std.proofs.Common.{◌≡◌, ◌+◌, ◌/◌, ◌-◌, length, vec_len}
 use Rattle.std.specs.Str.Iter.{HasSubslice}
-use Rattle.filterset_columns.specs.Columns.{names_of}
-use Rattle.filterset_columns.specs.Hits.{IsPlace}
-use Rattle.filterset_columns.specs.Searching.{AnsweredSoFar}
+use Rattle.filterset_columns.specs.{Columns.names_of, Hits.IsPlace, Searching.AnsweredSoFar}
 use Rattle.filterset_columns.proofs.search.find_some_text.Given as goal
 
 abbrev pub decreases-loop-hit : goal.decreases-loop-hit

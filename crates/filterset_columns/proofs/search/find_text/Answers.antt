@@ -1,5 +1,4 @@
-use Rattle.std.proofs.Common.{◌≡◌, ◌∙◌, length, sym}
-use Rattle.std.proofs.lemmas.Bool.{eqb-true}
+use Rattle.std.proofs.{Common.◌≡◌, Common.◌∙◌, Common.length, Common.sym, lemmas.Bool.eqb-true}
 use Rattle.filterset_columns.proofs.HitLemmas.{has_nothing}
 use Rattle.filterset_columns.proofs.search.find_text.Goals as goal
 

@@ -1,5 +1,4 @@
-use Rattle.std.proofs.Common.{rules, ◌≡◌, IsTrue, sym}
-use Rattle.std.proofs.lemmas.Result.{IfOk-weaker}
+use Rattle.std.proofs.{Common.rules, Common.◌≡◌, Common.IsTrue, Common.sym, lemmas.Result.IfOk-weaker}
 use Rattle.filterset_matchers.specs.Matchers.{matcher_of}
 use Rattle.filterset_columns.specs.Grouped.{IsGrouped}
 use Rattle.filterset_columns.proofs.ColumnLemmas.{equal_texts}

@@ -1,9 +1,7 @@
 use Rattle.std.proofs.Common.{rules, ◌↔◌, ◌∙◌, subst, sym, IsTrue}
-use Rattle.filterset_matchers.specs.Matcher.{MatchesName}
-use Rattle.filterset_matchers.specs.Matchers.{matcher_of}
+use Rattle.filterset_matchers.specs.{Matcher.MatchesName, Matchers.matcher_of}
 use Rattle.filterset_columns.specs.Columns.{answer_of, names_of, IsAt}
-use Rattle.filterset_columns.specs.Searching.{Finds}
-use Rattle.filterset_columns.specs.declared.search.Searcher.{Searcher}
+use Rattle.filterset_columns.specs.{Searching.Finds, declared.search.Searcher.Searcher}
 use Rattle.filterset_columns.proofs.ColumnLemmas.{more_answered}
 use Rattle.filterset_columns.proofs.search.search_each.Goals as goal
 

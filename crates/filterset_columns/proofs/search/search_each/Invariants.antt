@@ -1,8 +1,6 @@
 use Rattle.std.proofs.Common.{◌≡◌, ◌↔◌, ◌+◌, ◌/◌, ℕ, IsTrue, List, length, vec_len}
-use Rattle.filterset_matchers.specs.Matcher.{MatchesName}
-use Rattle.filterset_matchers.specs.Matchers.{matcher_of}
-use Rattle.filterset_columns.specs.Columns.{answer_of, names_of}
-use Rattle.filterset_columns.specs.Searching.{Finds, AnsweredSoFar}
+use Rattle.filterset_matchers.specs.{Matcher.MatchesName, Matchers.matcher_of}
+use Rattle.filterset_columns.specs.{Columns.answer_of, Columns.names_of, Searching.Finds, Searching.AnsweredSoFar}
 use Rattle.filterset_columns.proofs.search.search_each.Given as goal
 
 abbrev pub invariant-loop-position : goal.invariant-loop-position

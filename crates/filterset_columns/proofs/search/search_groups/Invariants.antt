@@ -1,8 +1,7 @@
 use Rattle.std.proofs.Common.{◌≡◌, ◌+◌, ◌/◌, IsTrue, length, vec_len}
 use Rattle.filterset_matchers.specs.Matchers.{matcher_of}
 use Rattle.filterset_columns.specs.Columns.{answer_of, names_of, test_of}
-use Rattle.filterset_columns.specs.Grouped.{Knows}
-use Rattle.filterset_columns.specs.Searching.{AnsweredSoFar}
+use Rattle.filterset_columns.specs.{Grouped.Knows, Searching.AnsweredSoFar}
 use Rattle.filterset_columns.proofs.search.search_groups.Given as goal
 
 abbrev pub invariant-loop-position : goal.invariant-loop-position

@@ -2,8 +2,7 @@ use Rattle.std.proofs.Common.{◌≡◌, ◌<◌, Some, true, ap, arith, length,
 use Rattle.std.specs.Prelude.{slice_get}
 use Rattle.std.proofs.lemmas.Option.{slice_get_within}
 use Rattle.toml.specs.View.{view}
-use Rattle.filterset_configuration.specs.Wrong.{IsRight}
-use Rattle.filterset_configuration.specs.declared.wrong.ValueRole.{ValueRole}
+use Rattle.filterset_configuration.specs.{Wrong.IsRight, declared.wrong.ValueRole.ValueRole}
 use Rattle.filterset_configuration.proofs.checking.is_right.Goals as goal
 
 pub returns-in-None-clause-right : goal.returns-in-None-clause-right

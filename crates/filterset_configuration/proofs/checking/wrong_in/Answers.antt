@@ -1,8 +1,7 @@
 use Rattle.std.proofs.Common.{arith, ◌≡◌, ◌<◌, ◌+◌, [], ◌∷◌, ◌++◌, length, take, ap, subst, sym, ◌∙◌}
 use Rattle.std.proofs.lemmas.List.{length-map, length-take-le, map-append, take_all, take_more}
 use Rattle.toml.specs.View.{view}
-use Rattle.filterset_configuration.specs.Keys.{Finds}
-use Rattle.filterset_configuration.specs.Wrong.{Judged, value_row, value_rows, values_of}
+use Rattle.filterset_configuration.specs.{Keys.Finds, Wrong.Judged, Wrong.value_row, Wrong.value_rows, Wrong.values_of}
 use Rattle.filterset_configuration.proofs.KeyLemmas.{found-next}
 use Rattle.filterset_configuration.proofs.checking.wrong_in.Goals as goal
 

@@ -1,7 +1,6 @@
 use Rattle.std.proofs.Common.{take}
 use Rattle.toml.specs.View.{view}
-use Rattle.filterset_configuration.specs.Keys.{Finds}
-use Rattle.filterset_configuration.specs.Wrong.{Judged, value_rows}
+use Rattle.filterset_configuration.specs.{Keys.Finds, Wrong.Judged, Wrong.value_rows}
 use Rattle.filterset_configuration.proofs.checking.wrong_in.Given as goal
 
 -- the values so far were checked

@@ -1,14 +1,11 @@
 use Rattle.std.proofs.Common.{rules, ◌≡◌, Err, List, Ok, Option, Result, Some, ℕ, ap, map, subst, true, ◌∙◌}
 use Rattle.std.specs.Prelude.{◌↔◌, IfOk, codes, option_and_then, option_copied, slice_get}
-use Rattle.toml.specs.Data.{Members}
-use Rattle.toml.specs.View.{table_view, view}
+use Rattle.toml.specs.{Data.Members, View.table_view, View.view}
 use Rattle.filterset_json.specs.Shape.{Text}
 use Rattle.filterset_configuration.specs.Circles.{IsIndex, IsProfileInCircle, links_of, position_of}
-use Rattle.filterset_configuration.specs.Leads.{AreFar, MarksEnds}
-use Rattle.filterset_sources.specs.Configurations.{keys_of}
-use Rattle.filterset_sources.specs.Sections.{members_under}
-use Rattle.filterset_configuration.specs.declared.circles.Link.{Link}
+use Rattle.filterset_configuration.specs.{Leads.AreFar, Leads.MarksEnds, declared.circles.Link.Link}
 use Rattle.filterset_configuration.proofs.CircleLemmas.{ends_are_circles, names_from_links, parents_from_links}
+use Rattle.filterset_sources.specs.{Configurations.keys_of, Sections.members_under}
 use Rattle.filterset_configuration.proofs.circles.mark_circles.Goals as goal
 
 if_ok : {T E : Type 0} (r : Result T E) (P Q : T → Type 0) → ((x : T) → P x → Q x) → IfOk r P → IfOk r Q

@@ -3,8 +3,7 @@ use Rattle.std.specs.Prelude.{bytes_eq}
 use Rattle.std.proofs.lemmas.List.{length-map, length-take-le, map-append, take_more}
 use Rattle.std.proofs.lemmas.Map.Text.{btree_map_updates_str}
 use Rattle.filterset_json.specs.Shape.{Text}
-use Rattle.filterset_configuration.specs.Circles.{IsIndex, position_of}
-use Rattle.filterset_configuration.specs.declared.circles.Link.{Link}
+use Rattle.filterset_configuration.specs.{Circles.IsIndex, Circles.position_of, declared.circles.Link.Link}
 use Rattle.filterset_configuration.proofs.EndLemmas.{index_more}
 use Rattle.filterset_configuration.proofs.circles.positions_of.Goals as goal
 

@@ -1,11 +1,9 @@
 use Rattle.std.proofs.Common.{◌≡◌, ◌+◌, ◌&&◌, true, false, drop, ap, sym, ◌∙◌, arith}
-use Rattle.std.proofs.lemmas.Bool.{and_from, and_left, and_right}
-use Rattle.std.proofs.lemmas.Grind.{common_steps}
-use Rattle.toml_parser.specs.Lexical.{skip_ws, starts_newline}
-use Rattle.toml_parser.specs.Strings.{hex_len}
+use Rattle.std.proofs.lemmas.{Bool.and_from, Bool.and_left, Bool.and_right, Grind.common_steps}
+use Rattle.toml_parser.specs.{Lexical.skip_ws, Lexical.starts_newline, Strings.hex_len}
 use Rattle.filterset_configuration.proofs.PieceLemmas.{ends_break, ends_char}
-use Rattle.filterset_configuration.proofs.content.escape_end.Goals as goal
 use Rattle.filterset_configuration.proofs.content.escape_end.Goals.{else-is_multi-via-then-is_multi+else-starts_newline, else-is_multi-via-else-is_multi}
+use Rattle.filterset_configuration.proofs.content.escape_end.Goals as goal
 
 pub returns-then-starts_newline : goal.returns-then-starts_newline
 returns-then-starts_newline c =

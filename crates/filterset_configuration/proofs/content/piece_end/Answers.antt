@@ -1,9 +1,8 @@
 use Rattle.std.proofs.Common.{◌≡◌, ◌&&◌, ◌==◌, ◌∙◌, sym, ne_eqb, get_or, false}
-use Rattle.std.proofs.lemmas.Bool.{and_left, and_right}
-use Rattle.std.proofs.lemmas.Option.{IfSome_then}
+use Rattle.std.proofs.lemmas.{Bool.and_left, Bool.and_right, Option.IfSome_then}
 use Rattle.filterset_configuration.proofs.PieceLemmas.{ends_byte, ends_escape}
-use Rattle.filterset_configuration.proofs.content.piece_end.Goals as goal
 use Rattle.filterset_configuration.proofs.content.piece_end.Goals.{else-byte_at-eq92-via-then-byte_at-eq92+else-delimiter-eq34, else-byte_at-eq92-via-else-byte_at-eq92}
+use Rattle.filterset_configuration.proofs.content.piece_end.Goals as goal
 
 pub returns-then-delimiter-eq34 : goal.returns-then-delimiter-eq34
 returns-then-delimiter-eq34 c =

@@ -2,12 +2,10 @@ use Rattle.std.proofs.Common.{◌≡◌, ◌<◌, true, false, List, ◌∷◌, 
 use Rattle.std.specs.Prelude.{option_copied}
 use Rattle.std.proofs.lemmas.List.{length-set, map-append}
 use Rattle.filterset_json.specs.Shape.{Text}
-use Rattle.filterset_configuration.specs.Names.{is_built_in}
-use Rattle.filterset_configuration.specs.Lineages.{IsMissing, Leads, named, parent}
-use Rattle.filterset_configuration.specs.Paths.{profile_path}
-use Rattle.filterset_configuration.specs.declared.fault.LineageFault.TheVariants.{Cycle}
-use Rattle.filterset_configuration.specs.declared.profiles.Profile.{Profile}
 use Rattle.filterset_configuration.proofs.Chains.{IsPassed, cycle_found, leads_push, lineage_once, mark_read, missing_found, no_fault, one_more_passed}
+use Rattle.filterset_configuration.specs.Lineages.{IsMissing, Leads, named, parent}
+use Rattle.filterset_configuration.specs.{Names.is_built_in, Paths.profile_path}
+use Rattle.filterset_configuration.specs.declared.{fault.LineageFault.TheVariants.Cycle, profiles.Profile.Profile}
 use Rattle.filterset_configuration.proofs.inheritance.lineage.Goals as goal
 
 -- a chain that leads to the next name

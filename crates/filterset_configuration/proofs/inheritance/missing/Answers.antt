@@ -1,9 +1,7 @@
 use Rattle.std.proofs.Common.{◌≡◌, ◌<◌, ◌+◌, ◌-◌, List, [], ◌∷◌, ◌++◌, length, get_or, map, take, arith, ap, sym, ◌∙◌}
-use Rattle.std.specs.Prelude.{codes}
-use Rattle.std.specs.Borrow.{Bor}
+use Rattle.std.specs.{Prelude.codes, Borrow.Bor}
 use Rattle.std.proofs.lemmas.List.{map-append, take_all, take_more}
-use Rattle.filterset_configuration.specs.Paths.{profile_path}
-use Rattle.filterset_configuration.specs.declared.profiles.Profile.{Profile}
+use Rattle.filterset_configuration.specs.{Paths.profile_path, declared.profiles.Profile.Profile}
 use Rattle.filterset_configuration.proofs.inheritance.missing.Goals as goal
 
 -- a list ends in its last element

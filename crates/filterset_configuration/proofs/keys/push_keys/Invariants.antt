@@ -2,8 +2,7 @@ use Rattle.std.proofs.Common.{◌≡◌, ◌++◌, map, string_bytes}
 use Rattle.toml.specs.View.{members_view}
 use Rattle.filterset_configuration.specs.Keys.{KeyRow, key_rows, prefix_of, section_keys}
 use Rattle.filterset_json.specs.Shape.{Text}
-use Rattle.filterset_sources.specs.Configurations.{keys_of}
-use Rattle.filterset_sources.specs.Sections.{section_row}
+use Rattle.filterset_sources.specs.{Configurations.keys_of, Sections.section_row}
 use Rattle.filterset_configuration.proofs.keys.push_keys.Given as goal
 
 -- the other keys are left

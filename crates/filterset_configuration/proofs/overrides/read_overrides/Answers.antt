@@ -1,9 +1,7 @@
 use Rattle.std.proofs.Common.{rules, ◌≡◌, ◌<◌, ◌+◌, List, Some, [], ◌∷◌, ◌++◌, length, get_or, map, take, ap, subst, sym, ◌∙◌, arith}
-use Rattle.std.specs.Prelude.{codes, unwrap_or}
-use Rattle.std.specs.List.{AllZip}
+use Rattle.std.specs.{Prelude.codes, Prelude.unwrap_or, List.AllZip}
 use Rattle.std.proofs.lemmas.List.{get_or-map, length-map, map-append, take_all, take_more}
-use Rattle.toml.specs.Data.{Data, array, get, no_items}
-use Rattle.toml.specs.View.{items_of, view}
+use Rattle.toml.specs.{Data.Data, Data.array, Data.get, Data.no_items, View.items_of, View.view}
 use Rattle.filterset_configuration.specs.Profiles.{IsOverride}
 use Rattle.filterset_configuration.proofs.Reading.{as_array-Some, handed_on}
 use Rattle.filterset_configuration.proofs.Zips.{array_same, items_same, zip_at, zip_push}

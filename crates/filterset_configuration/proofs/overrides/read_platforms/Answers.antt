@@ -1,7 +1,6 @@
 use Rattle.std.proofs.Common.{rules, ◌≡◌, false, Some, sym, ◌∙◌}
 use Rattle.std.specs.Prelude.{codes, is_some}
-use Rattle.toml.specs.Data.{as_table, get}
-use Rattle.toml.specs.View.{view}
+use Rattle.toml.specs.{Data.as_table, Data.get, View.view}
 use Rattle.filterset_configuration.proofs.Reading.{handed_on, target_of}
 use Rattle.filterset_configuration.proofs.overrides.read_platforms.Goals as goal
 

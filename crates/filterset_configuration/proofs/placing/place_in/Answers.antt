@@ -1,8 +1,6 @@
 use Rattle.std.proofs.Common.{rules, ◌≡◌, ◌∙◌, Some, ap, length, refl, sym, true}
-use Rattle.std.specs.List.{slice_get}
-use Rattle.std.specs.Prelude.{bytes_eq, option_map}
-use Rattle.std.proofs.lemmas.Option.{slice_get-map, slice_get_read}
-use Rattle.std.proofs.lemmas.Slice.Eq.{bytes_eq-Decides}
+use Rattle.std.specs.{List.slice_get, Prelude.bytes_eq, Prelude.option_map}
+use Rattle.std.proofs.lemmas.{Option.slice_get-map, Option.slice_get_read, Slice.Eq.bytes_eq-Decides}
 use Rattle.filterset_configuration.specs.Wrong.{value_row, value_rows}
 use Rattle.filterset_configuration.proofs.WrongLemmas.{value-place}
 use Rattle.filterset_configuration.proofs.placing.place_in.Goals as goal

@@ -1,7 +1,6 @@
 use Rattle.std.proofs.Common.{◌≡◌, ◌++◌, List}
 use Rattle.std.specs.List.{AllZip}
-use Rattle.toml.specs.Data.{Data}
-use Rattle.toml.specs.View.{members_view, view}
+use Rattle.toml.specs.{Data.Data, View.members_view, View.view}
 use Rattle.toml.proofs.Views.{Entry}
 use Rattle.filterset_configuration.specs.Profiles.{IsProfile}
 use Rattle.filterset_configuration.proofs.Zips.{members_by}

@@ -1,14 +1,11 @@
 use Rattle.std.proofs.Common.{◌≡◌, ◌<◌, List, ◌∷◌, [], ◌++◌, length, get_or, take, string_bytes, refl, ap, append_assoc, arith, subst, ◌∙◌}
 use Rattle.std.proofs.lemmas.List.{take_all}
 use Rattle.std.specs.List.{AllZip}
-use Rattle.filterset_configuration.specs.PlatformTrees.{facts_of}
-use Rattle.filterset_json.specs.Shape.{Text}
-use Rattle.filterset_configuration.specs.Paths.{override_path, profile_path}
+use Rattle.filterset_configuration.specs.{PlatformTrees.facts_of, Paths.override_path, Paths.profile_path}
 use Rattle.filterset_configuration.specs.Ranking.{IsRanked, placed}
-use Rattle.filterset_configuration.specs.declared.overrides.Override.{Override}
-use Rattle.filterset_configuration.specs.declared.ranking.RankedOverride.{RankedOverride}
-use Rattle.filterset_configuration.proofs.Ranks.{length-placed, placed_more}
-use Rattle.filterset_configuration.proofs.Zips.{zip_push}
+use Rattle.filterset_configuration.specs.declared.{overrides.Override.Override, ranking.RankedOverride.RankedOverride}
+use Rattle.filterset_configuration.proofs.{Ranks.length-placed, Ranks.placed_more, Zips.zip_push}
+use Rattle.filterset_json.specs.Shape.{Text}
 use Rattle.filterset_configuration.proofs.ranking.push_overrides.Goals as goal
 
 -- one more override is ranked

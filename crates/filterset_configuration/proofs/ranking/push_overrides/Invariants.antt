@@ -1,7 +1,6 @@
 use Rattle.std.proofs.Common.{◌≡◌, ◌++◌, List, take}
 use Rattle.std.specs.List.{AllZip}
-use Rattle.filterset_configuration.specs.PlatformTrees.{facts_of}
-use Rattle.filterset_configuration.specs.Ranking.{IsRanked, placed}
+use Rattle.filterset_configuration.specs.{PlatformTrees.facts_of, Ranking.IsRanked, Ranking.placed}
 use Rattle.filterset_configuration.specs.declared.ranking.RankedOverride.{RankedOverride}
 use Rattle.filterset_configuration.proofs.ranking.push_overrides.Given as goal
 

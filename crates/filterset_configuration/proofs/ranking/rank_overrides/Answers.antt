@@ -1,9 +1,7 @@
 use Rattle.std.proofs.Common.{◌<◌, length, map, take}
 use Rattle.std.specs.Prelude.{flat_map}
-use Rattle.filterset_configuration.specs.PlatformTrees.{facts_of}
-use Rattle.filterset_configuration.specs.Ranking.{IsRanked, placed}
-use Rattle.filterset_configuration.proofs.Ranks.{flat_more}
-use Rattle.filterset_configuration.proofs.Zips.{zip_append}
+use Rattle.filterset_configuration.specs.{PlatformTrees.facts_of, Ranking.IsRanked, Ranking.placed}
+use Rattle.filterset_configuration.proofs.{Ranks.flat_more, Zips.zip_append}
 use Rattle.filterset_configuration.proofs.ranking.rank_overrides.Goals as goal
 
 pub loop-profile-preserved : goal.loop-profile-preserved

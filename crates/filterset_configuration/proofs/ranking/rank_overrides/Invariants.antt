@@ -1,8 +1,6 @@
 use Rattle.std.proofs.Common.{map, take}
-use Rattle.std.specs.Prelude.{flat_map}
-use Rattle.std.specs.List.{AllZip}
-use Rattle.filterset_configuration.specs.PlatformTrees.{facts_of}
-use Rattle.filterset_configuration.specs.Ranking.{IsRanked, placed}
+use Rattle.std.specs.{Prelude.flat_map, List.AllZip}
+use Rattle.filterset_configuration.specs.{PlatformTrees.facts_of, Ranking.IsRanked, Ranking.placed}
 use Rattle.filterset_configuration.proofs.ranking.rank_overrides.Given as goal
 
 -- the overrides so far

@@ -1,6 +1,5 @@
 use Rattle.std.proofs.Common.{◌≡◌, ◌+◌, drop, length, arith}
-use Rattle.std.proofs.lemmas.Bool.{OnTrue_at}
-use Rattle.std.proofs.lemmas.Grind.{common_steps}
+use Rattle.std.proofs.lemmas.{Bool.OnTrue_at, Grind.common_steps}
 use Rattle.filterset_configuration.proofs.StringLemmas.{place-from}
 use Rattle.filterset_configuration.proofs.string.place_of.Goals as goal
 

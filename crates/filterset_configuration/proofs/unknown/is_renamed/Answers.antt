@@ -1,9 +1,7 @@
 use Rattle.std.proofs.Common.{rules, tests, ◌≡◌, ◌&&◌, ◌++◌, ap, bytes_eq, codes, string_bytes, ◌∙◌}
 use Rattle.std.specs.List.{list_any}
-use Rattle.std.proofs.lemmas.Iterator.{YieldsList-from_slice}
-use Rattle.std.proofs.lemmas.Iterator.Search.{any_from_yields_List}
-use Rattle.filterset_configuration.specs.Keys.{KeyRow}
-use Rattle.filterset_configuration.specs.declared.keys.FoundKey.{FoundKey}
+use Rattle.std.proofs.lemmas.Iterator.{YieldsList-from_slice, Search.any_from_yields_List}
+use Rattle.filterset_configuration.specs.{Keys.KeyRow, declared.keys.FoundKey.FoundKey}
 use Rattle.filterset_configuration.proofs.KeyLemmas.{any-rows}
 use Rattle.filterset_configuration.proofs.unknown.is_renamed.Goals as goal
 

@@ -1,8 +1,6 @@
 use Rattle.std.proofs.Common.{rules, ◌≡◌, ◌++◌, List, [], ◌∷◌, append-nil, inl, inr, refl, string_bytes, subst, sym}
-use Rattle.filterset_json.specs.Paths.{key_text}
-use Rattle.filterset_json.specs.Shape.{Text}
-use Rattle.filterset_configuration.specs.Edits.{IsMeant}
-use Rattle.filterset_configuration.specs.declared.unknown.UnknownKey.{UnknownKey}
+use Rattle.filterset_json.specs.{Paths.key_text, Shape.Text}
+use Rattle.filterset_configuration.specs.{Edits.IsMeant, declared.unknown.UnknownKey.UnknownKey}
 use Rattle.filterset_configuration.proofs.unknown.push_unknown.Goals as goal
 
 pub returns-in_default : goal.returns-in_default

@@ -1,12 +1,9 @@
 use Rattle.std.proofs.Common.{rules, ◌≡◌, [], ◌∷◌, ◌++◌, Some, true, false, ap, map, string_bytes, sym, ◌∙◌}
-use Rattle.std.specs.List.{list_any}
-use Rattle.std.specs.Option.{option_map_or}
-use Rattle.std.specs.Str.{bytes_eq}
-use Rattle.toml.specs.Data.{as_table}
-use Rattle.toml.specs.View.{members_view, view}
+use Rattle.std.specs.{List.list_any, Option.option_map_or, Str.bytes_eq}
+use Rattle.toml.specs.{Data.as_table, View.members_view, View.view}
 use Rattle.filterset_sources.specs.Configurations.{keys_of}
-use Rattle.filterset_configuration.proofs.OtherKeys.{kept_push, key_passed, keys_but}
 use Rattle.filterset_sources.proofs.ConfigurationLemmas.{keys-entries}
+use Rattle.filterset_configuration.proofs.OtherKeys.{kept_push, key_passed, keys_but}
 use Rattle.filterset_configuration.proofs.values.read_keys_but.Goals as goal
 
 pub loop-key-init : goal.loop-key-init

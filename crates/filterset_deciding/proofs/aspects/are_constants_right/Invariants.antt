@@ -1,6 +1,5 @@
 use Rattle.std.proofs.Common.{◌≡◌, take, true}
-use Rattle.filterset_deciding.specs.AnyTest.{AnyTest}
-use Rattle.filterset_deciding.specs.Aspects.{AgreesOn, is_constant}
+use Rattle.filterset_deciding.specs.{AnyTest.AnyTest, Aspects.AgreesOn, Aspects.is_constant}
 use Rattle.filterset_deciding.proofs.aspects.are_constants_right.Given as goal
 
 abbrev pub invariant-loop-placed : goal.invariant-loop-placed

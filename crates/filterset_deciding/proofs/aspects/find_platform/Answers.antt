@@ -1,9 +1,7 @@
-use Rattle.std.proofs.Common.{◌≡◌, ◌∙◌, refl, sym, true}
+use Rattle.std.proofs.{Common.◌≡◌, Common.◌∙◌, Common.refl, Common.sym, Common.true, lemmas.Bool.false≢true}
 use Rattle.filterset_deciding.specs.Aspects.{is_of_platform}
-use Rattle.std.proofs.lemmas.Bool.{false≢true}
-use Rattle.filterset_graph.specs.declared.package.BuildPlatform.{BuildPlatform}
-use Rattle.filterset_graph.specs.declared.package.BuildPlatform.TheVariants.{Target, Host}
 use Rattle.filterset_deciding.proofs.Agreeing.{agrees_on}
+use Rattle.filterset_graph.specs.declared.package.BuildPlatform.{BuildPlatform, TheVariants.Target, TheVariants.Host}
 use Rattle.filterset_deciding.proofs.aspects.find_platform.Goals as goal
 
 one_of_two : (p : BuildPlatform) → ¬ (p ≡ Target) → ¬ (p ≡ Host) → ⊥

@@ -1,9 +1,7 @@
 use Rattle.std.proofs.Common.{rules, arith, ◌≡◌, ◌<◌, ◌∙◌, true, length, get_or, refl, sym}
-use Rattle.std.proofs.lemmas.Bool.{false≢true}
-use Rattle.std.proofs.lemmas.List.{take_all}
+use Rattle.std.proofs.lemmas.{Bool.false≢true, List.take_all}
 use Rattle.filterset_expression.specs.FlatSteps.{step_of}
-use Rattle.filterset_deciding.specs.AnyTest.{AnyTest}
-use Rattle.filterset_deciding.specs.Aspects.{IsKnownOn, is_of_platform}
+use Rattle.filterset_deciding.specs.{AnyTest.AnyTest, Aspects.IsKnownOn, Aspects.is_of_platform}
 use Rattle.filterset_deciding.specs.declared.running.ValuedStep.{ValuedStep}
 use Rattle.filterset_deciding.proofs.Agreeing.{each_taken, not_each}
 use Rattle.filterset_deciding.proofs.aspects.is_platform_allowed.Goals as goal

@@ -1,8 +1,7 @@
 use Rattle.std.proofs.Common.{rules, arith, ◌≡◌, ◌<◌, length, get_or, subst}
 use Rattle.std.proofs.lemmas.Bool.Decides.{Decides-eqb}
 use Rattle.filterset_expression.specs.FlatSteps.{step_of}
-use Rattle.filterset_deciding.specs.Known.{IsKnownStep}
-use Rattle.filterset_deciding.specs.declared.running.ValuedStep.{ValuedStep}
+use Rattle.filterset_deciding.specs.{Known.IsKnownStep, declared.running.ValuedStep.ValuedStep}
 use Rattle.filterset_deciding.proofs.Branches.{agrees_at, each_pushed, mapped_more}
 use Rattle.filterset_deciding.proofs.Sizes.{narrowed_fewer, narrowed_most}
 use Rattle.filterset_deciding.proofs.branch.narrow.Goals as goal

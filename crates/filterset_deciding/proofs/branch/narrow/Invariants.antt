@@ -1,7 +1,6 @@
 use Rattle.std.proofs.Common.{◌≡◌, ◌↔◌, ◌<◌, ◌≤◌, take, IsTrue}
 use Rattle.filterset_expression.specs.Expression.{compiled_leaf}
-use Rattle.filterset_deciding.specs.AnyTest.{AnyTest, Says}
-use Rattle.filterset_deciding.specs.Known.{Agrees, steps_in}
+use Rattle.filterset_deciding.specs.{AnyTest.AnyTest, AnyTest.Says, Known.Agrees, Known.steps_in}
 use Rattle.filterset_deciding.specs.Waiting.{IsOpenAt, opens}
 use Rattle.filterset_deciding.proofs.branch.narrow.Given as goal
 

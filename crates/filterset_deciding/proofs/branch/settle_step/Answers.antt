@@ -1,6 +1,5 @@
 use Rattle.std.proofs.Common.{Some, arith, refl, subst, sym}
-use Rattle.filterset_expression.specs.Expression.{compiled_leaf}
-use Rattle.filterset_expression.specs.FlatSteps.{Push, step_of}
+use Rattle.filterset_expression.specs.{Expression.compiled_leaf, FlatSteps.Push, FlatSteps.step_of}
 use Rattle.filterset_deciding.specs.Known.{IsKnownStep}
 use Rattle.filterset_deciding.proofs.Sizes.{open_one, open_some}
 use Rattle.filterset_deciding.proofs.branch.settle_step.Goals as goal

@@ -1,7 +1,6 @@
 use Rattle.std.proofs.Common.{rules, arith, ◌≡◌, ◌<◌, length, get_or}
 use Rattle.filterset_expression.specs.FlatSteps.{step_of}
-use Rattle.filterset_deciding.specs.Known.{IsKnownStep}
-use Rattle.filterset_deciding.specs.declared.running.ValuedStep.{ValuedStep}
+use Rattle.filterset_deciding.specs.{Known.IsKnownStep, declared.running.ValuedStep.ValuedStep}
 use Rattle.filterset_deciding.proofs.Branches.{each_pushed, mapped_more}
 use Rattle.filterset_deciding.proofs.branch.start_branch.Goals as goal
 

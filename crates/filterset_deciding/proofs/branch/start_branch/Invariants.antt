@@ -1,7 +1,6 @@
 use Rattle.std.proofs.Common.{◌≡◌, take}
 use Rattle.filterset_expression.specs.FlatSteps.{steps_of}
-use Rattle.filterset_deciding.specs.AnyTest.{AnyTest}
-use Rattle.filterset_deciding.specs.Known.{Agrees, steps_in}
+use Rattle.filterset_deciding.specs.{AnyTest.AnyTest, Known.Agrees, Known.steps_in}
 use Rattle.filterset_deciding.proofs.branch.start_branch.Given as goal
 
 abbrev pub invariant-loop-step : goal.invariant-loop-step

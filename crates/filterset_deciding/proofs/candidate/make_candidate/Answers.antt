@@ -1,5 +1,4 @@
-use Rattle.std.proofs.Common.{◌∙◌, sym}
-use Rattle.std.proofs.lemmas.Bool.{false≢true}
+use Rattle.std.proofs.{Common.◌∙◌, Common.sym, lemmas.Bool.false≢true}
 use Rattle.filterset_deciding.proofs.Agreeing.{agrees_of_all, agrees_on}
 use Rattle.filterset_deciding.proofs.candidate.make_candidate.Goals as goal
 

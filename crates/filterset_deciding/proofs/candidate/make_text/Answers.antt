@@ -1,6 +1,5 @@
 use Rattle.std.proofs.Common.{sym, subst}
-use Rattle.filterset_deciding.specs.Aspects.{IsOfField, text_of}
-use Rattle.filterset_deciding.specs.Texts.{Meets}
+use Rattle.filterset_deciding.specs.{Aspects.IsOfField, Aspects.text_of, Texts.Meets}
 use Rattle.filterset_deciding.proofs.Agreeing.{agrees_on, text_is_utf8}
 use Rattle.filterset_deciding.proofs.candidate.make_text.Goals as goal
 

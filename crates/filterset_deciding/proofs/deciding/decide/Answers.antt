@@ -1,19 +1,12 @@
 use Rattle.std.proofs.Common.{◌≡◌, ◌<◌, ◌+◌, ◌*◌, ◌/◌, ◌^◌, ◌∙◌, ap, inl, inr, length, map, subst, sym, ⊎_elim, arith}
 use Rattle.std.specs.Borrow.{Bor}
-use Rattle.filterset_expression.specs.Expression.{with_default}
-use Rattle.filterset_expression.specs.declared.expression.CompiledExpr.{CompiledExpr}
-use Rattle.std.proofs.Math.Nat.{div-lt_iff_lt-mul}
-use Rattle.std.proofs.lemmas.List.{length-map, take_all}
-use Rattle.filterset_expression.specs.Contexts.{default_of}
-use Rattle.filterset_expression.specs.FlatSteps.{step_of, steps_of}
+use Rattle.std.proofs.{Math.Nat.div-lt_iff_lt-mul, lemmas.List.length-map, lemmas.List.take_all}
+use Rattle.filterset_expression.specs.{Expression.with_default, declared.expression.CompiledExpr.CompiledExpr}
+use Rattle.filterset_expression.specs.{Contexts.default_of, FlatSteps.step_of, FlatSteps.steps_of}
 use Rattle.filterset_deciding.specs.Deciding.{IsUnmetAt, formulas_asked, leaves_asked, steps_asked}
-use Rattle.filterset_deciding.specs.Demands.{IsDoubtAbout}
-use Rattle.filterset_deciding.specs.Searching.{pushed}
-use Rattle.filterset_deciding.specs.Texts.{AreComparisons, HasUnsearched}
-use Rattle.filterset_deciding.specs.declared.demand.Doubt.{Doubt}
-use Rattle.filterset_deciding.specs.declared.witness.Witness.{Witness}
-use Rattle.filterset_deciding.proofs.Branches.{always}
-use Rattle.filterset_deciding.proofs.Doubts.{kept_doubt, open_leaves, pushed-all}
+use Rattle.filterset_deciding.specs.{Demands.IsDoubtAbout, Searching.pushed, Texts.AreComparisons, Texts.HasUnsearched}
+use Rattle.filterset_deciding.specs.declared.{demand.Doubt.Doubt, witness.Witness.Witness}
+use Rattle.filterset_deciding.proofs.{Branches.always, Doubts.kept_doubt, Doubts.open_leaves, Doubts.pushed-all}
 use Rattle.filterset_deciding.proofs.Sizes.{steps_some}
 use Rattle.filterset_deciding.proofs.deciding.decide.Goals as goal
 

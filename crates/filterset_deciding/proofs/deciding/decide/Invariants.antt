@@ -1,7 +1,5 @@
 use Rattle.std.proofs.Common.{◌≡◌, ◌∷◌, map, take}
-use Rattle.filterset_expression.specs.Contexts.{default_of}
-use Rattle.filterset_expression.specs.Expression.{with_default}
-use Rattle.filterset_expression.specs.FlatSteps.{steps_of}
+use Rattle.filterset_expression.specs.{Contexts.default_of, Expression.with_default, FlatSteps.steps_of}
 use Rattle.filterset_deciding.specs.Searching.{all_steps}
 use Rattle.filterset_deciding.proofs.deciding.decide.Given as goal
 

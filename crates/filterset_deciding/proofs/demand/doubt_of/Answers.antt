@@ -1,19 +1,14 @@
 use Rattle.std.proofs.lemmas.List.{take_all}
 use Rattle.std.proofs.Common.{rules, arith, ◌≡◌, ◌<◌, length, get_or, take}
 use Rattle.std.specs.Prelude.{Contains}
-use Rattle.filterset_expression.specs.Expression.{CompiledLeaf}
-use Rattle.filterset_expression.specs.FlatSteps.{Push, step_of}
+use Rattle.filterset_expression.specs.{Expression.CompiledLeaf, FlatSteps.Push, FlatSteps.step_of}
 use Rattle.filterset_deciding.specs.Aspects.{IsKnownOn, IsOfField, text_of}
-use Rattle.filterset_deciding.specs.Demands.{IsOfLeaf}
-use Rattle.filterset_deciding.specs.Known.{steps_in}
-use Rattle.filterset_deciding.specs.Texts.{IsMetBy}
-use Rattle.filterset_deciding.specs.declared.demand.Demand.{Demand}
-use Rattle.filterset_deciding.specs.declared.running.ValuedStep.{ValuedStep}
+use Rattle.filterset_deciding.specs.{Demands.IsOfLeaf, Known.steps_in, Texts.IsMetBy}
+use Rattle.filterset_deciding.specs.declared.{demand.Demand.Demand, running.ValuedStep.ValuedStep}
 use Rattle.filterset_deciding.proofs.Agreeing.{demand_known, each_passed_iff, each_pushed_iff, take_one}
-use Rattle.filterset_deciding.proofs.Branches.{each_pushed}
-use Rattle.filterset_deciding.proofs.Doubts.{demanded}
-use Rattle.filterset_deciding.proofs.demand.doubt_of.Goals as goal
+use Rattle.filterset_deciding.proofs.{Branches.each_pushed, Doubts.demanded}
 use Rattle.filterset_deciding.proofs.demand.doubt_of.Goals.{in-Some+in_ok-push-in-Some, in-None}
+use Rattle.filterset_deciding.proofs.demand.doubt_of.Goals as goal
 
 pub loop-placed-preserved : goal.loop-placed-preserved
 loop-placed-preserved c =

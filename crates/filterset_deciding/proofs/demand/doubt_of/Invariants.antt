@@ -1,13 +1,8 @@
 use Rattle.std.proofs.Common.{◌↔◌, take}
-use Rattle.std.specs.Prelude.{Contains}
-use Rattle.std.specs.List.{AllByRecursion}
-use Rattle.filterset_expression.specs.Expression.{CompiledLeaf}
-use Rattle.filterset_expression.specs.FlatSteps.{Push}
-use Rattle.filterset_deciding.specs.AnyTest.{AnyTest}
-use Rattle.filterset_deciding.specs.Aspects.{AgreesOn, IsOfField, text_of}
-use Rattle.filterset_deciding.specs.Demands.{IsOfLeaf}
-use Rattle.filterset_deciding.specs.Known.{steps_in}
-use Rattle.filterset_deciding.specs.Texts.{Meets}
+use Rattle.std.specs.{Prelude.Contains, List.AllByRecursion}
+use Rattle.filterset_expression.specs.{Expression.CompiledLeaf, FlatSteps.Push}
+use Rattle.filterset_deciding.specs.{AnyTest.AnyTest, Aspects.AgreesOn, Aspects.IsOfField, Aspects.text_of}
+use Rattle.filterset_deciding.specs.{Demands.IsOfLeaf, Known.steps_in, Texts.Meets}
 use Rattle.filterset_deciding.proofs.demand.doubt_of.Given as goal
 
 -- the demands so far are of leaves of the branch, and a text meets them exactly if the steps so far agree with it

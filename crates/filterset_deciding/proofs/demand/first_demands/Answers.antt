@@ -1,5 +1,4 @@
-use Rattle.std.proofs.Common.{arith, sym}
-use Rattle.std.proofs.lemmas.List.{length-take-le}
+use Rattle.std.proofs.{Common.arith, Common.sym, lemmas.List.length-take-le}
 use Rattle.filterset_deciding.proofs.Parts.{among_taken}
 use Rattle.filterset_deciding.proofs.demand.first_demands.Goals as goal
 

@@ -1,7 +1,6 @@
 use Rattle.std.proofs.Common.{◌↔◌, ◌∙◌, false, not, sym, subst, IsTrue}
 use Rattle.std.specs.Bool.{beq}
-use Rattle.filterset_matchers.specs.Matcher.{MatchesName}
-use Rattle.filterset_matchers.specs.Matchers.{matcher_of}
+use Rattle.filterset_matchers.specs.{Matcher.MatchesName, Matchers.matcher_of}
 use Rattle.filterset_deciding.proofs.Rules.{literal_refuted, only_known, same_matches}
 use Rattle.filterset_deciding.proofs.inferring.infer_matcher.Goals as goal
 

@@ -1,6 +1,5 @@
-use Rattle.std.proofs.Common.{◌∙◌, sym}
+use Rattle.std.proofs.{Common.◌∙◌, Common.sym, lemmas.Bool.false≢true}
 use Rattle.std.specs.Prelude.{Contains}
-use Rattle.std.proofs.lemmas.Bool.{false≢true}
 use Rattle.filterset_expression.proofs.PackageIds.{found_exactly}
 use Rattle.filterset_deciding.proofs.Rules.{passed_one, passed_all}
 use Rattle.filterset_deciding.proofs.inferring.is_apart.Goals as goal

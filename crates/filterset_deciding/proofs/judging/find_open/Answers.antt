@@ -1,9 +1,7 @@
 use Rattle.std.proofs.Common.{arith, ◌≡◌, ◌≢◌, ◌<◌, ◌+◌, ℕ, Bool, List, Option, Some, None, get_or, length, refl, take}
 use Rattle.std.specs.List.{AllByRecursion}
-use Rattle.std.proofs.lemmas.List.{get_or_default, take_all}
-use Rattle.std.proofs.lemmas.List.Elements.{Contains-get_or}
-use Rattle.filterset_deciding.specs.Waiting.{IsSettled, WaitsAt}
-use Rattle.filterset_deciding.specs.declared.running.StackValue.{StackValue}
+use Rattle.std.proofs.lemmas.List.{get_or_default, take_all, Elements.Contains-get_or}
+use Rattle.filterset_deciding.specs.{Waiting.IsSettled, Waiting.WaitsAt, declared.running.StackValue.StackValue}
 use Rattle.filterset_deciding.proofs.Agreeing.{each_taken}
 use Rattle.filterset_deciding.proofs.judging.find_open.Goals as goal
 

@@ -1,11 +1,8 @@
 use Rattle.std.proofs.Common.{arith, ◌≡◌, ◌<◌, ℕ, List, length, get_or, subst, sym, take}
-use Rattle.std.specs.Prelude.{All}
-use Rattle.std.specs.Borrow.{Bor}
+use Rattle.std.specs.{Prelude.All, Borrow.Bor}
 use Rattle.std.proofs.lemmas.List.{take_all}
-use Rattle.filterset_expression.specs.Contexts.{default_of}
-use Rattle.filterset_expression.specs.declared.query.TestQuery.{TestQuery}
-use Rattle.filterset_deciding.specs.Listed.{AreOfQuestion, IsMetAsked}
-use Rattle.filterset_deciding.specs.declared.listed.LaidQuestion.{LaidQuestion}
+use Rattle.filterset_expression.specs.{Contexts.default_of, declared.query.TestQuery.TestQuery}
+use Rattle.filterset_deciding.specs.{Listed.AreOfQuestion, Listed.IsMetAsked, declared.listed.LaidQuestion.LaidQuestion}
 use Rattle.filterset_deciding.proofs.Asking.{all_more, first_unmet, met_by_all}
 use Rattle.filterset_deciding.proofs.listed.find_listed.Goals as goal
 

@@ -1,6 +1,5 @@
 use Rattle.std.proofs.Common.{ℕ, List, drop}
-use Rattle.filterset_glob.specs.Matching.{Matches}
-use Rattle.filterset_glob.specs.Tokens.{tokens_of}
+use Rattle.filterset_glob.specs.{Matching.Matches, Tokens.tokens_of}
 use Rattle.filterset_deciding.proofs.literals.begin_apart.Given as goal
 
 -- the tokens so far take the same of a text that both match

@@ -1,9 +1,6 @@
-use Rattle.std.proofs.Common.{◌≡◌, ◌∙◌, refl, sym}
-use Rattle.std.proofs.lemmas.Bool.{false≢true}
-use Rattle.filterset_deciding.specs.AnyTest.{AnyTest}
-use Rattle.filterset_deciding.specs.Known.{Agrees}
-use Rattle.filterset_deciding.proofs.Agreeing.{agrees_on}
-use Rattle.filterset_deciding.proofs.Rules.{passed_one, passed_all}
+use Rattle.std.proofs.{Common.◌≡◌, Common.◌∙◌, Common.refl, Common.sym, lemmas.Bool.false≢true}
+use Rattle.filterset_deciding.specs.{AnyTest.AnyTest, Known.Agrees}
+use Rattle.filterset_deciding.proofs.{Agreeing.agrees_on, Rules.passed_one, Rules.passed_all}
 use Rattle.filterset_deciding.proofs.packages.find_allowed.Goals as goal
 
 pub loop-id-preserved : goal.loop-id-preserved

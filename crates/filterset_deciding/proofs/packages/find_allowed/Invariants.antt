@@ -1,6 +1,5 @@
 use Rattle.std.proofs.Common.{◌≡◌}
-use Rattle.filterset_deciding.specs.AnyTest.{AnyTest}
-use Rattle.filterset_deciding.specs.Known.{Agrees}
+use Rattle.filterset_deciding.specs.{AnyTest.AnyTest, Known.Agrees}
 use Rattle.filterset_deciding.proofs.Rules.{PassedOrLeft}
 use Rattle.filterset_deciding.proofs.packages.find_allowed.Given as goal
 

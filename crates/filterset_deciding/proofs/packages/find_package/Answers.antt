@@ -2,8 +2,7 @@ use Rattle.std.proofs.Common.{rules, arith, ◌≡◌, ◌<◌, ◌∙◌, ℕ, 
 use Rattle.std.specs.Borrow.{Bor}
 use Rattle.std.proofs.lemmas.List.{take_all}
 use Rattle.filterset_deciding.specs.PackageSets.{IsInNone}
-use Rattle.filterset_deciding.proofs.Agreeing.{each_taken}
-use Rattle.filterset_deciding.proofs.Branches.{agrees_at}
+use Rattle.filterset_deciding.proofs.{Agreeing.each_taken, Branches.agrees_at}
 use Rattle.filterset_deciding.proofs.packages.find_package.Goals as goal
 
 pub loop-placed-preserved : goal.loop-placed-preserved

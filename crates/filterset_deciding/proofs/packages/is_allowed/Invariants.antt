@@ -1,6 +1,5 @@
 use Rattle.std.proofs.Common.{◌≡◌, take, true}
-use Rattle.filterset_deciding.specs.AnyTest.{AnyTest}
-use Rattle.filterset_deciding.specs.Aspects.{AgreesOn, is_of_package}
+use Rattle.filterset_deciding.specs.{AnyTest.AnyTest, Aspects.AgreesOn, Aspects.is_of_package}
 use Rattle.filterset_deciding.proofs.packages.is_allowed.Given as goal
 
 abbrev pub invariant-loop-placed : goal.invariant-loop-placed

@@ -1,8 +1,7 @@
 use Rattle.std.proofs.Common.{rules, arith, ◌≡◌, ◌<◌, length, get_or, max, take}
 use Rattle.std.proofs.lemmas.List.{take_all}
 use Rattle.filterset_deciding.specs.PackageSets.{IsWithin}
-use Rattle.filterset_deciding.proofs.Agreeing.{each_taken, within_more}
-use Rattle.filterset_deciding.proofs.Doubts.{each_weaker}
+use Rattle.filterset_deciding.proofs.{Agreeing.each_taken, Agreeing.within_more, Doubts.each_weaker}
 use Rattle.filterset_deciding.proofs.packages.longest_in.Goals as goal
 
 pub loop-placed-preserved : goal.loop-placed-preserved

@@ -1,5 +1,4 @@
-use Rattle.std.proofs.Common.{◌<◌, length, subst, sym}
-use Rattle.std.proofs.lemmas.Result.{IfOk-weaker}
+use Rattle.std.proofs.{Common.◌<◌, Common.length, Common.subst, Common.sym, lemmas.Result.IfOk-weaker}
 use Rattle.filterset_deciding.proofs.Agreeing.{longer_agrees}
 use Rattle.filterset_deciding.proofs.packages.make_other.Goals as goal
 

@@ -1,10 +1,8 @@
 use Rattle.std.proofs.Common.{◌≡◌, refl, rules, subst, sym}
 use Rattle.std.specs.List.{AllByRecursion}
 use Rattle.filterset_expression.specs.Connectives.{kleene_not}
-use Rattle.filterset_deciding.specs.Waiting.{WaitsIn}
-use Rattle.filterset_deciding.specs.declared.running.StackValue.{StackValue}
-use Rattle.filterset_deciding.proofs.Branches.{each_before, each_pushed}
-use Rattle.filterset_deciding.proofs.Waits.{waits_negated}
+use Rattle.filterset_deciding.specs.{Waiting.WaitsIn, declared.running.StackValue.StackValue}
+use Rattle.filterset_deciding.proofs.{Branches.each_before, Branches.each_pushed, Waits.waits_negated}
 use Rattle.filterset_deciding.proofs.running.negate.Goals as goal
 
 pub returns-clause-waits : goal.returns-clause-waits

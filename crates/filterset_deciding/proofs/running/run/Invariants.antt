@@ -1,7 +1,6 @@
 use Rattle.std.proofs.Common.{◌≡◌, [], drop}
 use Rattle.std.specs.List.{AllByRecursion}
-use Rattle.filterset_deciding.specs.Running.{kleene_run, tops}
-use Rattle.filterset_deciding.specs.Waiting.{WaitsIn}
+use Rattle.filterset_deciding.specs.{Running.kleene_run, Running.tops, Waiting.WaitsIn}
 use Rattle.filterset_deciding.proofs.running.run.Given as goal
 
 -- the steps that are left make of the stack what all steps make, and unknown values wait for open leaves

@@ -1,12 +1,8 @@
-use Rattle.std.proofs.Common.{ap, refl, subst, sym}
+use Rattle.std.proofs.{Common.ap, Common.refl, Common.subst, Common.sym, lemmas.Result.IfOk-weaker}
 use Rattle.std.specs.List.{AllByRecursion}
-use Rattle.std.proofs.lemmas.Result.{IfOk-weaker}
-use Rattle.filterset_expression.specs.Expression.{compiled_leaf}
-use Rattle.filterset_expression.specs.FlatSteps.{step_of}
-use Rattle.filterset_deciding.specs.Waiting.{WaitsIn}
-use Rattle.filterset_deciding.specs.declared.running.StackValue.{StackValue}
-use Rattle.filterset_deciding.proofs.Branches.{each_pushed}
-use Rattle.filterset_deciding.proofs.Waits.{waits_leaf}
+use Rattle.filterset_expression.specs.{Expression.compiled_leaf, FlatSteps.step_of}
+use Rattle.filterset_deciding.specs.{Waiting.WaitsIn, declared.running.StackValue.StackValue}
+use Rattle.filterset_deciding.proofs.{Branches.each_pushed, Waits.waits_leaf}
 use Rattle.filterset_deciding.proofs.running.run_step.Goals as goal
 
 pub returns-in_ok-push-in-Leaf-clause-waits : goal.returns-in_ok-push-in-Leaf-clause-waits

@@ -1,8 +1,6 @@
 use Rattle.filterset_expression.specs.Expression.{compiled_leaf}
-use Rattle.filterset_deciding.specs.Known.{steps_in}
-use Rattle.filterset_deciding.specs.Waiting.{opens}
-use Rattle.filterset_deciding.proofs.Branches.{divided_pending, divided_steps}
-use Rattle.filterset_deciding.proofs.Sizes.{divided_size}
+use Rattle.filterset_deciding.specs.{Known.steps_in, Waiting.opens}
+use Rattle.filterset_deciding.proofs.{Branches.divided_pending, Branches.divided_steps, Sizes.divided_size}
 use Rattle.filterset_deciding.proofs.searching.divide.Goals as goal
 
 pub returns : goal.returns

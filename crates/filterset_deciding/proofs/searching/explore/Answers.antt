@@ -1,8 +1,6 @@
-use Rattle.std.proofs.Common.{arith}
-use Rattle.std.proofs.lemmas.Result.{IfOk-weaker}
+use Rattle.std.proofs.{Common.arith, lemmas.Result.IfOk-weaker}
 use Rattle.filterset_deciding.specs.Waiting.{opens}
-use Rattle.filterset_deciding.proofs.Refusing.{any_ok}
-use Rattle.filterset_deciding.proofs.Sizes.{nodes_some}
+use Rattle.filterset_deciding.proofs.{Refusing.any_ok, Sizes.nodes_some}
 use Rattle.filterset_deciding.proofs.searching.explore.Goals as goal
 
 pub returns-in-Met-clause-fewer : goal.returns-in-Met-clause-fewer

@@ -1,7 +1,4 @@
-use Rattle.filterset_deciding.proofs.Branches.{met_rejects}
-use Rattle.filterset_deciding.proofs.Refusing.{unmet_refuses}
-use Rattle.filterset_deciding.proofs.Sizes.{formulas_run}
-use Rattle.filterset_deciding.proofs.Waits.{some_open}
+use Rattle.filterset_deciding.proofs.{Branches.met_rejects, Refusing.unmet_refuses, Sizes.formulas_run, Waits.some_open}
 use Rattle.filterset_deciding.proofs.searching.judge_branch.Goals as goal
 
 pub returns-in-Some : goal.returns-in-Some

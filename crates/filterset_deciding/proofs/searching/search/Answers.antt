@@ -1,21 +1,15 @@
 use Rattle.std.proofs.Common.{◌≡◌, ◌∙◌, Some, None, [], ◌++◌, IfSome, sym, ap, subst, length, arith, inl, inr}
-use Rattle.std.specs.List.{AllByRecursion}
-use Rattle.std.specs.declared.vec.Vec.{Vec}
-use Rattle.std.specs.declared.alloc.Global.{Global}
-use Rattle.filterset_expression.specs.FlatSteps.{steps_of}
-use Rattle.filterset_expression.specs.Contexts.{default_of}
+use Rattle.std.specs.{List.AllByRecursion, declared.vec.Vec.Vec, declared.alloc.Global.Global}
+use Rattle.filterset_expression.specs.{FlatSteps.steps_of, Contexts.default_of}
 use Rattle.filterset_deciding.specs.Candidates.{HasOpen, IsLeftDoubt}
-use Rattle.filterset_deciding.specs.Deciding.{IsUnmetAt}
-use Rattle.filterset_deciding.specs.declared.witness.Witness.{Witness}
-use Rattle.filterset_deciding.specs.Known.{steps_in}
+use Rattle.filterset_deciding.specs.{Deciding.IsUnmetAt, declared.witness.Witness.Witness, Known.steps_in}
 use Rattle.filterset_deciding.specs.Searching.{AgreesWith, HaveSteps, NoneAgrees, pushed}
-use Rattle.filterset_deciding.specs.Waiting.{nodes}
-use Rattle.filterset_deciding.specs.declared.running.ValuedStep.{ValuedStep}
-use Rattle.filterset_deciding.specs.declared.searching.Searched.TheVariants as searched
+use Rattle.filterset_deciding.specs.{Waiting.nodes, declared.running.ValuedStep.ValuedStep}
 use Rattle.filterset_deciding.proofs.Branches.{each_before, each_pushed, kept_steps, one_fewer}
 use Rattle.filterset_deciding.proofs.Sizes.{kept_size, start_size, stopped_before}
-use Rattle.filterset_deciding.proofs.searching.search.Goals as goal
 use Rattle.filterset_deciding.proofs.searching.search.Goals.{in-Closed, in-Left, in-None-left, in-Some-left}
+use Rattle.filterset_deciding.specs.declared.searching.Searched.TheVariants as searched
+use Rattle.filterset_deciding.proofs.searching.search.Goals as goal
 
 pub branches-init : goal.branches-init
 branches-init c =

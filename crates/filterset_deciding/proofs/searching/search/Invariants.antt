@@ -1,7 +1,6 @@
 use Rattle.std.proofs.Common.{◌≡◌, ◌+◌, ◌≤◌, None, IfSome, length}
 use Rattle.filterset_expression.specs.FlatSteps.{steps_of}
-use Rattle.filterset_deciding.specs.AnyTest.{AnyTest}
-use Rattle.filterset_deciding.specs.Candidates.{IsLeftDoubt}
+use Rattle.filterset_deciding.specs.{AnyTest.AnyTest, Candidates.IsLeftDoubt}
 use Rattle.filterset_deciding.specs.Searching.{HaveSteps, IsMissed, NoneAgrees, pushed}
 use Rattle.filterset_deciding.specs.Waiting.{all_nodes, nodes}
 use Rattle.filterset_deciding.proofs.searching.search.Given as goal

@@ -1,11 +1,8 @@
 use Rattle.std.proofs.Common.{◌≡◌, subst, sym}
 use Rattle.filterset_expression.specs.Contexts.{default_of}
-use Rattle.filterset_deciding.specs.AnyTest.{AnyTest}
-use Rattle.filterset_deciding.specs.Deciding.{IsOf, IsUnmetAt}
-use Rattle.filterset_deciding.specs.Known.{Agrees}
+use Rattle.filterset_deciding.specs.{AnyTest.AnyTest, Deciding.IsOf, Deciding.IsUnmetAt, Known.Agrees}
 use Rattle.filterset_deciding.specs.Searching.{AreAnswersAt}
-use Rattle.filterset_deciding.specs.declared.witness.PossibleTest.{PossibleTest}
-use Rattle.filterset_deciding.specs.declared.witness.Witness.{Witness}
+use Rattle.filterset_deciding.specs.declared.witness.{PossibleTest.PossibleTest, Witness.Witness}
 use Rattle.filterset_deciding.proofs.Refusing.{refused_at}
 use Rattle.filterset_deciding.proofs.searching.try_branch.Goals as goal
 

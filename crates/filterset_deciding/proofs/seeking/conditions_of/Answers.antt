@@ -3,8 +3,7 @@ use Rattle.std.specs.Prelude.{chars}
 use Rattle.std.proofs.lemmas.List.{take_all}
 use Rattle.filterset_texts.specs.Parts as part
 use Rattle.filterset_deciding.specs.Texts.{IsMetBy}
-use Rattle.filterset_deciding.proofs.Agreeing.{each_pushed_iff, take_one}
-use Rattle.filterset_deciding.proofs.Doubts.{contains_at}
+use Rattle.filterset_deciding.proofs.{Agreeing.each_pushed_iff, Agreeing.take_one, Doubts.contains_at}
 use Rattle.filterset_deciding.proofs.seeking.conditions_of.Goals as goal
 
 pub loop-demand-preserved : goal.loop-demand-preserved

@@ -1,6 +1,5 @@
 use Rattle.std.proofs.Common.{rules, arith, ◌≡◌, ◌<◌, ◌∙◌, length, get_or, refl, sym}
-use Rattle.std.proofs.lemmas.Bool.{false≢true}
-use Rattle.std.proofs.lemmas.List.{take_all}
+use Rattle.std.proofs.lemmas.{Bool.false≢true, List.take_all}
 use Rattle.filterset_deciding.specs.Texts.{IsSimple}
 use Rattle.filterset_deciding.proofs.Agreeing.{each_taken, not_each}
 use Rattle.filterset_deciding.proofs.texts.are_simple.Goals as goal

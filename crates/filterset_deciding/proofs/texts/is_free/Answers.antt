@@ -1,8 +1,6 @@
-use Rattle.std.proofs.Common.{◌∙◌, eqb, refl, sym}
+use Rattle.std.proofs.{Common.◌∙◌, Common.eqb, Common.refl, Common.sym, lemmas.Bool.false≢true}
+use Rattle.std.proofs.lemmas.{Bool.Decides.Decides-eqb, List.Elements.Decides-contains, List.Elements.contains_decides}
 use Rattle.std.specs.Prelude.{Contains}
-use Rattle.std.proofs.lemmas.Bool.{false≢true}
-use Rattle.std.proofs.lemmas.Bool.Decides.{Decides-eqb}
-use Rattle.std.proofs.lemmas.List.Elements.{Decides-contains, contains_decides}
 use Rattle.filterset_deciding.proofs.Parts.{not_hit}
 use Rattle.filterset_deciding.proofs.texts.is_free.Goals as goal
 

@@ -1,6 +1,5 @@
-use Rattle.std.proofs.Common.{rules, arith, ◌≡◌, ◌<◌, ◌∙◌, length, get_or, sym, ap, string_bytes}
+use Rattle.std.proofs.Common.{rules, arith, ◌≡◌, ◌<◌, ◌∙◌, length, get_or, sym, ap, string_bytes, ◌++◌, ◌∷◌, []}
 use Rattle.std.proofs.lemmas.List.{take_all}
-use Rattle.std.proofs.Common.{◌++◌, ◌∷◌, []}
 use Rattle.filterset_deciding.specs.Texts.{part_of}
 use Rattle.filterset_deciding.proofs.Parts.{flat_map_more}
 use Rattle.filterset_deciding.proofs.texts.join_parts.Goals as goal

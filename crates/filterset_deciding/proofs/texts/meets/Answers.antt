@@ -1,10 +1,9 @@
 use Rattle.std.proofs.Common.{rules, arith, ◌≡◌, ◌<◌, length, get_or, refl}
-use Rattle.std.proofs.lemmas.Bool.{false≢true}
-use Rattle.std.proofs.lemmas.List.{take_all}
+use Rattle.std.proofs.lemmas.{Bool.false≢true, List.take_all}
 use Rattle.filterset_deciding.specs.Texts.{IsMetBy, matcher_in}
+use Rattle.filterset_deciding.proofs.Agreeing.{each_taken, not_each}
 use Rattle.filterset_matchers.specs.Matcher.{MatchesName}
 use Rattle.filterset_texts.proofs.Ends.{met_if, unmet_if}
-use Rattle.filterset_deciding.proofs.Agreeing.{each_taken, not_each}
 use Rattle.filterset_deciding.proofs.texts.meets.Goals as goal
 
 pub returns-then-is_matched-demand : goal.returns-then-is_matched-demand

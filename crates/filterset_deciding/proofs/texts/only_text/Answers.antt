@@ -1,8 +1,6 @@
 use Rattle.std.proofs.Common.{rules, arith, ◌≡◌, ◌<◌, ◌∙◌, true, length, get_or, sym}
-use Rattle.std.proofs.lemmas.Bool.{false≢true}
-use Rattle.std.proofs.lemmas.List.{take_all}
-use Rattle.filterset_deciding.specs.Texts.{IsEqual, IsMetBy, matcher_in}
-use Rattle.filterset_deciding.specs.declared.demand.Demand.{Demand}
+use Rattle.std.proofs.lemmas.{Bool.false≢true, List.take_all}
+use Rattle.filterset_deciding.specs.{Texts.IsEqual, Texts.IsMetBy, Texts.matcher_in, declared.demand.Demand.Demand}
 use Rattle.filterset_deciding.proofs.Agreeing.{each_at, each_taken}
 use Rattle.filterset_deciding.proofs.texts.only_text.Goals as goal
 

@@ -1,5 +1,4 @@
-use Rattle.std.proofs.Common.{◌∙◌, sym}
-use Rattle.std.proofs.lemmas.Bool.{false≢true}
+use Rattle.std.proofs.{Common.◌∙◌, Common.sym, lemmas.Bool.false≢true}
 use Rattle.filterset_deciding.proofs.texts.take_if_met.Goals as goal
 
 pub returns-then-not-branch : goal.returns-then-not-branch

@@ -1,11 +1,8 @@
 use Rattle.std.proofs.Common.{rules, arith, ◌≡◌, ◌<◌, ◌+◌, ◌∙◌, [], ◌∷◌, ◌++◌, length, get_or, take, ap}
 use Rattle.std.specs.Borrow.{Bor}
-use Rattle.std.proofs.lemmas.List.{take_more}
-use Rattle.std.proofs.lemmas.Slice.Zip.{all_zipped_more}
-use Rattle.filterset_expression.specs.Contexts.{default_of}
-use Rattle.filterset_expression.specs.FlatExpressions.{IsFlat}
-use Rattle.filterset_expression.specs.declared.expression.CompiledExpr.{CompiledExpr}
-use Rattle.filterset_expression.specs.declared.flat.FlatExpr.{FlatExpr}
+use Rattle.std.proofs.lemmas.{List.take_more, Slice.Zip.all_zipped_more}
+use Rattle.filterset_expression.specs.{Contexts.default_of, FlatExpressions.IsFlat}
+use Rattle.filterset_expression.specs.declared.{expression.CompiledExpr.CompiledExpr, flat.FlatExpr.FlatExpr}
 use Rattle.filterset_deciding.proofs.witness.lay_out.Goals as goal
 
 pub loop-expr-preserved : goal.loop-expr-preserved

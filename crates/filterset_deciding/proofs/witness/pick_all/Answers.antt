@@ -1,6 +1,5 @@
 use Rattle.std.proofs.Common.{rules, arith, ◌≡◌, ◌<◌, ◌+◌, ◌∙◌, [], ◌∷◌, ◌++◌, length, get_or, take, ap}
-use Rattle.std.proofs.lemmas.List.{take_more}
-use Rattle.std.proofs.lemmas.Slice.Zip.{all_zipped_more}
+use Rattle.std.proofs.lemmas.{List.take_more, Slice.Zip.all_zipped_more}
 use Rattle.filterset_deciding.specs.AnyTest.{IsPickOf}
 use Rattle.filterset_deciding.proofs.witness.pick_all.Goals as goal
 

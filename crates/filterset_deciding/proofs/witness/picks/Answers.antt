@@ -1,7 +1,6 @@
 use Rattle.std.proofs.Common.{◌↔◌, IfOk, IsTrue, subst}
 use Rattle.filterset_expression.specs.Expression.{Holds, Lookup}
-use Rattle.filterset_expression.specs.FlatExpressions.{IsFlat}
-use Rattle.filterset_expression.specs.declared.expression.CompiledExpr.{CompiledExpr}
+use Rattle.filterset_expression.specs.{FlatExpressions.IsFlat, declared.expression.CompiledExpr.CompiledExpr}
 use Rattle.filterset_deciding.proofs.witness.picks.OwnLists.{reads-GroupLookup-matches_group-1-1}
 use Rattle.filterset_deciding.proofs.witness.picks.Goals as goal
 

@@ -1,7 +1,6 @@
 use Rattle.std.proofs.Common.{rules, arith, ◌≡◌, ◌<◌, length, get_or, map}
 use Rattle.std.proofs.lemmas.List.{take_all}
-use Rattle.serde_json.specs.View.{view}
-use Rattle.serde_json.specs.declared.value.Value.{the_lemmas}
+use Rattle.serde_json.specs.{View.view, declared.value.Value.the_lemmas}
 use Rattle.filterset_documents.specs.Edits.{edit_row, IsEdit}
 use Rattle.filterset_documents.proofs.JoinLemmas.{Zips-rows}
 use Rattle.filterset_documents.proofs.edits.edits_value.Goals as goal

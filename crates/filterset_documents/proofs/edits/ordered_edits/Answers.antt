@@ -3,8 +3,7 @@ use Rattle.std.proofs.lemmas.List.Sorted.{IsNonDecreasingBy-from_sort_by_key, Is
 use Rattle.std.proofs.lemmas.Map.Views.{All-map-IsPermutation}
 use Rattle.std.specs.List.Sorted.{IsPermutation}
 use Rattle.filterset_entries.specs.Checked.{text_row}
-use Rattle.filterset_documents.specs.Edits.{EditRow, ReplacesOne, edit_row}
-use Rattle.filterset_documents.specs.declared.edits.Edit.{Edit}
+use Rattle.filterset_documents.specs.{Edits.EditRow, Edits.ReplacesOne, Edits.edit_row, declared.edits.Edit.Edit}
 use Rattle.filterset_documents.proofs.EditLemmas.{rewrites-replace, seen_in_order}
 use Rattle.filterset_documents.proofs.edits.ordered_edits.Goals as goal
 

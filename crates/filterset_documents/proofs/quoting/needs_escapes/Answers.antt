@@ -1,11 +1,7 @@
 use Rattle.std.proofs.Common.{◌≡◌, ◌==◌, ◌||◌, ◌<◌, ◌≤◌, ◌∙◌, ℕ, Bool, true, ap, get_or, length, lit<, sym}
-use Rattle.std.proofs.lemmas.Bool.Decides.{Decides-eqb, same_from_decides}
-use Rattle.std.proofs.lemmas.List.{get_or_default}
-use Rattle.std.proofs.lemmas.List.Folds.{Any-from_list_any, list_any_at}
-use Rattle.std.proofs.lemmas.Str.Pattern.{contains_char}
-use Rattle.std.specs.List.{list_any}
-use Rattle.std.specs.Prelude.{MatchBool, None, Some}
-use Rattle.std.specs.Str.Pattern.{FindsChar}
+use Rattle.std.proofs.lemmas.{Bool.Decides.Decides-eqb, Bool.Decides.same_from_decides, List.get_or_default}
+use Rattle.std.proofs.lemmas.{List.Folds.Any-from_list_any, List.Folds.list_any_at, Str.Pattern.contains_char}
+use Rattle.std.specs.{List.list_any, Prelude.MatchBool, Prelude.None, Prelude.Some, Str.Pattern.FindsChar}
 use Rattle.filterset_editor.specs.Positions.{Text}
 use Rattle.filterset_documents.proofs.quoting.needs_escapes.Goals as goal
 

@@ -1,10 +1,8 @@
-use Rattle.std.proofs.Common.{◌≡◌, ◌-◌, ◌∙◌, refl, subst}
+use Rattle.std.proofs.{Common.◌≡◌, Common.◌-◌, Common.◌∙◌, Common.refl, Common.subst, lemmas.Result.IfOk-weaker}
 use Rattle.std.specs.Prelude.{codes}
-use Rattle.std.proofs.lemmas.Result.{IfOk-weaker}
 use Rattle.toml.specs.Errors.{span_end, span_start}
 use Rattle.serde_json.specs.View.{view}
-use Rattle.filterset_faults.specs.Span.{span}
-use Rattle.filterset_faults.specs.declared.span.SourceSpan.{SourceSpan}
+use Rattle.filterset_faults.specs.{Span.span, declared.span.SourceSpan.SourceSpan}
 use Rattle.filterset_documents.specs.Diagnostics.{IsDiagnostic}
 use Rattle.filterset_drawing.specs.declared.remark.Severity.TheVariants.{Error}
 use Rattle.filterset_documents.proofs.refusals.toml_value.Goals as goal

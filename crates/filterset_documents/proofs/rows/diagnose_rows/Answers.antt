@@ -3,8 +3,7 @@ use Rattle.std.proofs.lemmas.List.{take_all}
 use Rattle.serde_json.specs.View.{view}
 use Rattle.filterset_drawing.specs.Remarks.{remark_row}
 use Rattle.filterset_entries.specs.Checked.{text_row}
-use Rattle.filterset_documents.specs.Diagnostics.{RowDiagnostics}
-use Rattle.filterset_documents.specs.Joins.{no_parts}
+use Rattle.filterset_documents.specs.{Diagnostics.RowDiagnostics, Joins.no_parts}
 use Rattle.filterset_documents.proofs.JoinLemmas.{Joins-more}
 use Rattle.filterset_documents.proofs.rows.diagnose_rows.Goals as goal
 

@@ -1,8 +1,7 @@
 use Rattle.std.proofs.Common.{map, take}
 use Rattle.serde_json.specs.View.{view}
 use Rattle.filterset_entries.specs.Checked.{text_row}
-use Rattle.filterset_documents.specs.Diagnostics.{RowDiagnostics}
-use Rattle.filterset_documents.specs.Joins.{Joins}
+use Rattle.filterset_documents.specs.{Diagnostics.RowDiagnostics, Joins.Joins}
 use Rattle.filterset_documents.proofs.rows.diagnose_rows.Given as goal
 
 -- the filtersets so far have their diagnostics

@@ -1,6 +1,5 @@
 use Rattle.std.proofs.Common.{map, take}
-use Rattle.std.specs.List.{AllZip}
-use Rattle.std.specs.Prelude.{unwrap_or}
+use Rattle.std.specs.{List.AllZip, Prelude.unwrap_or}
 use Rattle.serde_json.specs.View.{view}
 use Rattle.filterset_drawing.specs.Remarks.{remark_row}
 use Rattle.filterset_faults.specs.Span.{span}

@@ -1,8 +1,7 @@
 use Rattle.std.proofs.Common.{rules, arith, ◌≡◌, ◌<◌, List, length, get_or, subst, sym}
 use Rattle.std.proofs.lemmas.List.{take_all}
 use Rattle.serde_json.specs.View.{view}
-use Rattle.filterset_configuration.specs.Wrong.{AreWrongValues}
-use Rattle.filterset_configuration.specs.declared.wrong.WrongValue.{WrongValue}
+use Rattle.filterset_configuration.specs.{Wrong.AreWrongValues, declared.wrong.WrongValue.WrongValue}
 use Rattle.filterset_documents.specs.Diagnostics.{IsValueWarning}
 use Rattle.filterset_documents.proofs.JoinLemmas.{Zips-items}
 use Rattle.filterset_documents.proofs.values.diagnose_values.Goals as goal

@@ -1,13 +1,10 @@
 use Rattle.std.proofs.Common.{◌≡◌, ◌+◌, ◌++◌, ◌∷◌, [], length, length-append, arith, ap, refl, sym, ◌∙◌}
-use Rattle.std.specs.Prelude.{chars, encode_utf8, encode_utf8_all}
-use Rattle.std.specs.Str.Iter.{chars_rest}
-use Rattle.std.proofs.lemmas.Iterator.{YieldsList-from_chars}
-use Rattle.std.proofs.lemmas.Iterator.Consumers.{YieldsList-end}
+use Rattle.std.specs.{Prelude.chars, Prelude.encode_utf8, Prelude.encode_utf8_all, Str.Iter.chars_rest}
+use Rattle.std.proofs.lemmas.{Iterator.YieldsList-from_chars, Iterator.Consumers.YieldsList-end, List.map-id}
 use Rattle.filterset_drawing.specs.Columns.{columns_of}
 use Rattle.filterset_drawing.proofs.ColumnLemmas.{encodes-push, named-within, within, within-push_after, within-push_before, within-push_in}
-use Rattle.std.proofs.lemmas.List.{map-id}
-use Rattle.filterset_drawing.proofs.column.columns_between.Goals as goal
 use Rattle.filterset_drawing.proofs.column.columns_between.Goals.{then-from-at+then-at-to, else-from-at, else-from-at-via-then-from-at+else-at-to, else-from-at-via-else-from-at}
+use Rattle.filterset_drawing.proofs.column.columns_between.Goals as goal
 
 pub loop-c-preserved : goal.loop-c-preserved
 loop-c-preserved c =

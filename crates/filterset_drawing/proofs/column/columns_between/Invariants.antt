@@ -1,6 +1,5 @@
 use Rattle.std.proofs.Common.{◌≡◌, ◌+◌, ◌*◌, ◌≤◌, length}
-use Rattle.std.specs.Prelude.{encode_utf8_all}
-use Rattle.std.specs.Str.Iter.{chars_rest}
+use Rattle.std.specs.{Prelude.encode_utf8_all, Str.Iter.chars_rest}
 use Rattle.filterset_drawing.proofs.ColumnLemmas.{within}
 use Rattle.filterset_drawing.proofs.column.columns_between.Given as goal
 

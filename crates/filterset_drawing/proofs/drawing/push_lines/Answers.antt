@@ -1,7 +1,5 @@
-use Rattle.std.proofs.Common.{ap, ◌++◌, ◌∙◌, map, string_bytes}
-use Rattle.std.proofs.lemmas.List.{take_all}
-use Rattle.filterset_drawing.specs.Drawings.{marked_lines}
-use Rattle.filterset_drawing.specs.Cutting.{line_row}
+use Rattle.std.proofs.{Common.ap, Common.◌++◌, Common.◌∙◌, Common.map, Common.string_bytes, lemmas.List.take_all}
+use Rattle.filterset_drawing.specs.{Drawings.marked_lines, Cutting.line_row}
 use Rattle.filterset_drawing.proofs.drawing.push_lines.Goals as goal
 
 pub returns : goal.returns

@@ -1,6 +1,5 @@
 use Rattle.std.proofs.Common.{◌≡◌, ◌++◌, map, string_bytes, take}
-use Rattle.filterset_drawing.specs.Drawings.{marked_lines}
-use Rattle.filterset_drawing.specs.Cutting.{line_row}
+use Rattle.filterset_drawing.specs.{Drawings.marked_lines, Cutting.line_row}
 use Rattle.filterset_drawing.proofs.drawing.push_lines.Given as goal
 
 -- the lines so far were drawn

@@ -1,9 +1,7 @@
 use Rattle.std.proofs.Common.{◌≡◌, ◌++◌, OnOk, Option, map, string_bytes, subst, sym}
 use Rattle.std.proofs.lemmas.Result.{on_ok_weaker}
 use Rattle.filterset_faults.specs.declared.span.SourceSpan.{SourceSpan}
-use Rattle.filterset_drawing.specs.Columns.{Text}
-use Rattle.filterset_drawing.specs.Cutting.{line_row}
-use Rattle.filterset_drawing.specs.Drawings.{DrawnSpan}
+use Rattle.filterset_drawing.specs.{Columns.Text, Cutting.line_row, Drawings.DrawnSpan}
 use Rattle.filterset_drawing.proofs.MetLemmas.{span-drawn}
 use Rattle.filterset_drawing.proofs.drawing.push_span.Goals as goal
 

@@ -1,8 +1,6 @@
 use Rattle.std.proofs.Common.{ap, sym, ◌++◌, ◌∙◌, string_bytes}
 use Rattle.std.specs.List.{flat_map}
-use Rattle.std.proofs.lemmas.Iterator.{YieldsList-from_chars}
-use Rattle.std.proofs.lemmas.Iterator.Consumers.{YieldsList-end}
-use Rattle.std.proofs.lemmas.List.{map-id}
+use Rattle.std.proofs.lemmas.{Iterator.YieldsList-from_chars, Iterator.Consumers.YieldsList-end, List.map-id}
 use Rattle.filterset_drawing.specs.Annotations.{written_in}
 use Rattle.filterset_drawing.proofs.escaping.push_escaped.Goals as goal
 

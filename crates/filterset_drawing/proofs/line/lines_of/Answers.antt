@@ -2,11 +2,8 @@ use Rattle.std.proofs.Common.{◌≡◌, ◌==◌, ℕ, List, ◌+◌, ◌++◌,
 use Rattle.std.specs.Borrow.{Bor}
 use Rattle.std.proofs.lemmas.Iterator.Consumers.{YieldsList-end, YieldsList-so_far, YieldsList-turn}
 use Rattle.std.proofs.lemmas.Iterator.Splits.{YieldsList-from_str_split}
-use Rattle.std.proofs.lemmas.List.{length-map, length_push, map-append}
-use Rattle.std.proofs.lemmas.List.Sums.{sum_by_more_le, sum_by_push}
-use Rattle.filterset_drawing.specs.Columns.{Text}
-use Rattle.filterset_drawing.specs.Cutting.{line_row, numbered}
-use Rattle.filterset_drawing.specs.Lines.{pieces}
+use Rattle.std.proofs.lemmas.List.{length-map, length_push, map-append, Sums.sum_by_more_le, Sums.sum_by_push}
+use Rattle.filterset_drawing.specs.{Columns.Text, Cutting.line_row, Cutting.numbered, Lines.pieces}
 use Rattle.filterset_drawing.specs.declared.line.Line.{Line}
 use Rattle.filterset_drawing.proofs.LineLemmas.{extent, extent-slice_split, length-le-extent, lines-push}
 use Rattle.filterset_drawing.proofs.line.lines_of.Goals as goal

@@ -1,6 +1,5 @@
 use Rattle.std.proofs.Common.{string_bytes, subst}
-use Rattle.filterset_editor.specs.Edits.{IsChanged}
-use Rattle.filterset_editor.specs.Positions.{Text}
+use Rattle.filterset_editor.specs.{Edits.IsChanged, Positions.Text}
 use Rattle.filterset_editor.proofs.ChangeLemmas.{AreChanged-more}
 use Rattle.filterset_editor.proofs.edits.change_text.Goals as goal
 

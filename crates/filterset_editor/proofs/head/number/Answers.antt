@@ -1,5 +1,4 @@
-use Rattle.std.proofs.Common.{arith}
-use Rattle.std.proofs.lemmas.Grind.{common_steps}
+use Rattle.std.proofs.{Common.arith, lemmas.Grind.common_steps}
 use Rattle.filterset_editor.proofs.HeadLemmas.{number-stop, number-next, number-large, number-done}
 use Rattle.filterset_editor.proofs.head.number.Goals as goal
 

@@ -1,9 +1,8 @@
 use Rattle.std.proofs.Common.{inl, inr, sym, ◌∙◌, arith}
-use Rattle.std.proofs.lemmas.Grind.{common_steps}
-use Rattle.std.proofs.lemmas.List.{append-nil}
+use Rattle.std.proofs.lemmas.{Grind.common_steps, List.append-nil}
 use Rattle.filterset_editor.proofs.PositionLemmas.{starts-none, starts-step}
-use Rattle.filterset_editor.proofs.lines.find_starts.Goals as goal
 use Rattle.filterset_editor.proofs.lines.find_starts.Goals.{then-ends_line+in_ok-push-2, else-ends_line}
+use Rattle.filterset_editor.proofs.lines.find_starts.Goals as goal
 
 pub loop-at-preserved : goal.loop-at-preserved
 loop-at-preserved c =

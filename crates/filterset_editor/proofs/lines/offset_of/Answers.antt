@@ -1,7 +1,6 @@
 use Rattle.std.proofs.Common.{arith, sym, ◌∙◌, ap, ◌≡◌, List, ℕ, None, Some, refl}
 use Rattle.std.specs.Prelude.{slice_get}
-use Rattle.std.proofs.lemmas.Grind.{common_steps}
-use Rattle.std.proofs.lemmas.Option.{gets}
+use Rattle.std.proofs.lemmas.{Grind.common_steps, Option.gets}
 use Rattle.filterset_editor.specs.Positions.{Text, line_starts}
 use Rattle.filterset_editor.proofs.PositionLemmas.{offset-is, offset-past, start-boundary}
 use Rattle.filterset_editor.proofs.lines.offset_of.Goals as goal

@@ -1,6 +1,5 @@
 use Rattle.std.proofs.Common.{◌≡◌, Some, ap, option_map, string_bytes, sym, ◌∙◌}
-use Rattle.filterset_editor.specs.Machine.{state_of}
-use Rattle.filterset_editor.specs.Refusals.{uri_of}
+use Rattle.filterset_editor.specs.{Machine.state_of, Refusals.uri_of}
 use Rattle.filterset_editor.proofs.RefusalLemmas.{notice-refused}
 use Rattle.filterset_editor.proofs.server.answer_notice.Goals as goal
 

@@ -2,9 +2,7 @@ use Rattle.std.proofs.Common.{Some, String, inr, refl, string_bytes}
 use Rattle.std.proofs.lemmas.Result.{IfOk-weaker}
 use Rattle.std.specs.declared.alloc.Global.{Global}
 use Rattle.serde_json.specs.View.{view}
-use Rattle.filterset_editor.specs.Machine.{state_of}
-use Rattle.filterset_editor.specs.Refusals.{AnswersOrRunsOut, refused_data}
-use Rattle.filterset_editor.specs.Written.{Writes}
+use Rattle.filterset_editor.specs.{Machine.state_of, Refusals.AnswersOrRunsOut, Refusals.refused_data, Written.Writes}
 use Rattle.filterset_editor.specs.declared.message.Incoming.TheVariants.{Request}
 use Rattle.filterset_editor.proofs.server.answer_request.Goals as goal
 

@@ -1,8 +1,6 @@
 use Rattle.std.proofs.Common.{◌≡◌, Some, string_bytes, sym, subst, List}
 use Rattle.serde_json.specs.View.{view}
-use Rattle.filterset_editor.specs.Documents.{document_of}
-use Rattle.filterset_editor.specs.Positions.{Text}
-use Rattle.filterset_editor.specs.declared.documents.Document.{Document}
+use Rattle.filterset_editor.specs.{Documents.document_of, Positions.Text, declared.documents.Document.Document}
 use Rattle.filterset_editor.proofs.ServerLemmas.{changed-is}
 use Rattle.filterset_editor.proofs.server.change.Goals as goal
 

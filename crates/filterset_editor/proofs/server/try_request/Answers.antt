@@ -1,7 +1,6 @@
 use Rattle.std.proofs.Common.{Some, List, refl, subst}
 use Rattle.serde_json.specs.View.{view}
-use Rattle.filterset_editor.specs.Machine.{Replies}
-use Rattle.filterset_editor.specs.declared.documents.Document.{Document}
+use Rattle.filterset_editor.specs.{Machine.Replies, declared.documents.Document.Document}
 use Rattle.filterset_editor.proofs.server.try_request.Goals as goal
 
 pub returns-clause-ok : goal.returns-clause-ok

@@ -1,7 +1,6 @@
 use Rattle.std.proofs.Common.{◌≡◌}
 use Rattle.std.specs.Io.KnownBytes.{prepend_known}
-use Rattle.filterset_editor.specs.Machine.{state_of}
-use Rattle.filterset_editor.specs.Sessions.{IsServing}
+use Rattle.filterset_editor.specs.{Machine.state_of, Sessions.IsServing}
 use Rattle.filterset_editor.proofs.serving.serve.Given as goal
 
 abbrev pub invariant-loop-turn : goal.invariant-loop-turn

@@ -1,7 +1,6 @@
 use Rattle.std.proofs.Common.{refl, subst, sym, ◌∙◌}
 use Rattle.std.specs.List.{slice_range}
-use Rattle.filterset_editor.specs.Frames.{IsPartial}
-use Rattle.filterset_editor.specs.Machine.{state_of}
+use Rattle.filterset_editor.specs.{Frames.IsPartial, Machine.state_of}
 use Rattle.filterset_editor.proofs.FrameLemmas.{taken-frame}
 use Rattle.filterset_editor.proofs.SessionLemmas.{read-all, serving-answered, serving-on}
 use Rattle.filterset_editor.proofs.serving.take_turn.Goals as goal

@@ -1,7 +1,6 @@
 use Rattle.std.proofs.Common.{◌≡◌, map, take}
 use Rattle.std.specs.List.{enumerate_from}
-use Rattle.filterset_entries.specs.Checked.{text_row}
-use Rattle.filterset_entries.specs.Entries.{placed_row}
+use Rattle.filterset_entries.specs.{Checked.text_row, Entries.placed_row}
 use Rattle.filterset_entries.proofs.entries.configured_entries.Given as goal
 
 -- the filtersets so far have their entries

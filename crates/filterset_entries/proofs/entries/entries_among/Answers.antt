@@ -1,15 +1,13 @@
 use Rattle.std.proofs.Common.{arith, ◌≡◌, ◌+◌, ◌++◌, ◌∙◌, ap, length, lit<, sym}
-use Rattle.std.proofs.lemmas.Iterator.{YieldsList-from_zip}
-use Rattle.std.proofs.lemmas.Iterator.Consumers.{YieldsList-end, YieldsList-turn}
+use Rattle.std.proofs.lemmas.Iterator.{YieldsList-from_zip, Consumers.YieldsList-end, Consumers.YieldsList-turn}
 use Rattle.std.proofs.lemmas.Iterator.Splits.{YieldsList-from_lines, YieldsList-from_str_split}
 use Rattle.std.proofs.lemmas.List.{append-nil, length_push, take_all}
-use Rattle.std.specs.Prelude.{option_to_list}
-use Rattle.std.specs.Str.Lines.{lines}
+use Rattle.std.specs.{Prelude.option_to_list, Str.Lines.lines}
 use Rattle.filterset_entries.specs.Entries.{line_row, listed_row}
 use Rattle.filterset_entries.proofs.LineLemmas.{LineTurn, line_turn, turns_long}
 use Rattle.filterset_entries.proofs.RowsLemmas.{next_entries}
-use Rattle.filterset_entries.proofs.entries.entries_among.Goals as goal
 use Rattle.filterset_entries.proofs.entries.entries_among.Goals.{in-Some-2+in_ok-push, in_default}
+use Rattle.filterset_entries.proofs.entries.entries_among.Goals as goal
 
 pub overflow_add-from : goal.overflow_add-from
 overflow_add-from c =

@@ -1,8 +1,6 @@
 use Rattle.std.proofs.Common.{◌≡◌, length, map, take}
-use Rattle.std.specs.List.{enumerate_from, filter_map}
-use Rattle.std.specs.Str.Lines.{lines}
-use Rattle.filterset_entries.specs.Checked.{text_row}
-use Rattle.filterset_entries.specs.Entries.{line_row, line_start}
+use Rattle.std.specs.{List.enumerate_from, List.filter_map, Str.Lines.lines}
+use Rattle.filterset_entries.specs.{Checked.text_row, Entries.line_row, Entries.line_start}
 use Rattle.filterset_entries.proofs.entries.entries_among.Given as goal
 
 -- the lines so far have their entries, and the next begins here

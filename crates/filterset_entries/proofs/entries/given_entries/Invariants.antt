@@ -1,6 +1,5 @@
 use Rattle.std.proofs.Common.{◌≡◌, map, take}
-use Rattle.filterset_entries.specs.Checked.{text_row}
-use Rattle.filterset_entries.specs.Entries.{numbered_rows}
+use Rattle.filterset_entries.specs.{Checked.text_row, Entries.numbered_rows}
 use Rattle.filterset_entries.proofs.entries.given_entries.Given as goal
 
 -- the texts so far have their entries

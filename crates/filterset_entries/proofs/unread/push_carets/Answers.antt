@@ -2,8 +2,7 @@ use Rattle.std.proofs.Common.{arith, ◌≡◌, ◌<◌, ◌∙◌, ◌++◌, �
 use Rattle.std.proofs.lemmas.List.{map-append, map_push, take_more}
 use Rattle.filterset_drawing.specs.Remarks.{RemarkRow, remark_row}
 use Rattle.filterset_faults.specs.declared.span.SourceSpan.{SourceSpan}
-use Rattle.filterset_entries.specs.Placements.{placement_of}
-use Rattle.filterset_entries.specs.Unread.{caret_remark, found_span}
+use Rattle.filterset_entries.specs.{Placements.placement_of, Unread.caret_remark, Unread.found_span}
 use Rattle.filterset_entries.proofs.unread.push_carets.Goals as goal
 
 pub loop-span-preserved : goal.loop-span-preserved

@@ -1,7 +1,6 @@
 use Rattle.std.proofs.Common.{◌≡◌, ◌++◌, map, option_map, string_bytes, take}
 use Rattle.filterset_drawing.specs.Remarks.{remark_row}
-use Rattle.filterset_entries.specs.Placements.{placement_of}
-use Rattle.filterset_entries.specs.Unread.{caret_remark, found_span}
+use Rattle.filterset_entries.specs.{Placements.placement_of, Unread.caret_remark, Unread.found_span}
 use Rattle.filterset_entries.proofs.unread.push_carets.Given as goal
 
 -- the operators so far have their remarks

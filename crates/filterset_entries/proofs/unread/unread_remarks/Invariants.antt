@@ -1,7 +1,6 @@
 use Rattle.std.proofs.Common.{◌≡◌, ◌++◌, List, map, take}
 use Rattle.filterset_drawing.specs.Remarks.{RemarkRow, remark_row}
-use Rattle.filterset_entries.specs.Checked.{text_row}
-use Rattle.filterset_entries.specs.Unread.{AreAllCaretRemarks, key_remark}
+use Rattle.filterset_entries.specs.{Checked.text_row, Unread.AreAllCaretRemarks, Unread.key_remark}
 use Rattle.filterset_entries.proofs.unread.unread_remarks.Given as goal
 
 -- the filtersets so far have their remarks

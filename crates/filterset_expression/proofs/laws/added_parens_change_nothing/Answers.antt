@@ -1,10 +1,8 @@
 use Rattle.std.proofs.Common.{IsTrue}
 use Rattle.filterset_expression.specs.BinaryMeaning.{is_either_of_test, EitherOfBinary, tree_leaf_with_default}
 use Rattle.filterset_expression.specs.Formula.{replaced, TrueWhere}
-use Rattle.filterset_expression.specs.Meaning.{MeansOfTest, tree_formula}
-use Rattle.filterset_expression.specs.Values.{TrueUnder, CanBe}
-use Rattle.filterset_expression.proofs.AddedParens.{same_formula}
-use Rattle.filterset_expression.proofs.Meanings.{alike_at}
+use Rattle.filterset_expression.specs.{Meaning.MeansOfTest, Meaning.tree_formula, Values.TrueUnder, Values.CanBe}
+use Rattle.filterset_expression.proofs.{AddedParens.same_formula, Meanings.alike_at}
 use Rattle.filterset_expression.proofs.laws.added_parens_change_nothing.Goals as goal
 
 pub returns : goal.returns

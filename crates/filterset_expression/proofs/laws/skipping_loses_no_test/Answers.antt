@@ -1,6 +1,5 @@
 use Rattle.std.proofs.Common.{◌≡◌, true, false, refl}
-use Rattle.filterset_expression.proofs.BinaryMeanings.{compiled_definite}
-use Rattle.filterset_expression.proofs.LeafAnswers.{definite_of_test}
+use Rattle.filterset_expression.proofs.{BinaryMeanings.compiled_definite, LeafAnswers.definite_of_test}
 use Rattle.filterset_expression.proofs.Meanings.{compiled_means}
 use Rattle.filterset_expression.proofs.laws.skipping_loses_no_test.Goals as goal
 

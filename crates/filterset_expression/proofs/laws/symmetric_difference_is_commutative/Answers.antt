@@ -1,7 +1,6 @@
 use Rattle.filterset_expression.specs.BinaryMeaning.{is_either_of_test, tree_with_default, EitherOfBinary}
 use Rattle.filterset_expression.specs.Connectives.{ExclusiveDisjunction}
-use Rattle.filterset_expression.proofs.Exact.{turned_can_be}
-use Rattle.filterset_expression.proofs.Connectives.{turned}
+use Rattle.filterset_expression.proofs.{Exact.turned_can_be, Connectives.turned}
 use Rattle.filterset_expression.proofs.laws.symmetric_difference_is_commutative.Goals as goal
 
 pub returns-clause-tests : goal.returns-clause-tests

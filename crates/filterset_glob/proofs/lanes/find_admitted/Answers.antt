@@ -1,10 +1,7 @@
 use Rattle.std.proofs.Common.{◌≡◌, ◌-◌, ◌^◌, ◌<◌, true, get_or, ap, sym, subst, ◌∙◌, arith, w64, ⊎_elim}
 use Rattle.std.specs.Int.{bit_at}
-use Rattle.std.proofs.lemmas.Bool.{cases_eq}
-use Rattle.std.proofs.lemmas.Nat.Bits.{bit_at_ones, bit_at_not, bit_at-lt}
-use Rattle.filterset_glob.specs.declared.token.GlobToken.{Class}
-use Rattle.filterset_glob.specs.Matching.{Admits, InRanges}
-use Rattle.filterset_glob.specs.Tokens.{token_of}
+use Rattle.std.proofs.lemmas.{Bool.cases_eq, Nat.Bits.bit_at_ones, Nat.Bits.bit_at_not, Nat.Bits.bit_at-lt}
+use Rattle.filterset_glob.specs.{declared.token.GlobToken.Class, Matching.Admits, Matching.InRanges, Tokens.token_of}
 use Rattle.filterset_glob.proofs.lanes.find_admitted.Goals as goal
 
 pub returns-in-AnyChar : goal.returns-in-AnyChar

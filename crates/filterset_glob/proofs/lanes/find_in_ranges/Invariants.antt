@@ -1,6 +1,5 @@
 use Rattle.std.proofs.Common.{◌≡◌, ℕ, ◌≤◌, ◌<◌, slice_index}
-use Rattle.std.specs.List.{slice_index_or}
-use Rattle.std.specs.Int.{bit_at}
+use Rattle.std.specs.{List.slice_index_or, Int.bit_at}
 use Rattle.filterset_glob.specs.Matching.{InRanges}
 use Rattle.filterset_glob.proofs.lanes.find_in_ranges.Given as goal
 

@@ -1,5 +1,4 @@
-use Rattle.std.proofs.Common.{length, ap, ◌∙◌, arith}
-use Rattle.std.proofs.lemmas.Str.{chars-IsAscii}
+use Rattle.std.proofs.{Common.length, Common.ap, Common.◌∙◌, Common.arith, lemmas.Str.chars-IsAscii}
 use Rattle.filterset_glob.proofs.Passing.{answers}
 use Rattle.filterset_glob.proofs.matcher.matches.Goals as goal
 

@@ -1,6 +1,5 @@
 use Rattle.filterset_glob.specs.Tokens.{token_of}
-use Rattle.filterset_glob.proofs.Passing.{moves_over}
-use Rattle.filterset_glob.proofs.Runs.{moves_one}
+use Rattle.filterset_glob.proofs.{Passing.moves_over, Runs.moves_one}
 use Rattle.filterset_glob.proofs.matcher.pass_character.Goals as goal
 
 pub returns-clause-moved : goal.returns-clause-moved

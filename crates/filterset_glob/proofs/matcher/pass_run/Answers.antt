@@ -1,11 +1,9 @@
 use Rattle.std.proofs.Common.{◌≡◌, ℕ, ◌+◌, ◌-◌, ◌≤◌, List, [], ◌∷◌, length, take, drop, sym, ap, subst, ◌∙◌, arith, length-drop}
 use Rattle.std.proofs.lemmas.List.{take_rest, drop-drop}
-use Rattle.filterset_glob.specs.declared.token.GlobToken.{GlobToken}
-use Rattle.filterset_glob.specs.Positions.{Moves}
-use Rattle.filterset_glob.specs.Matching.{Matches, TakesOne, node_count}
-use Rattle.filterset_glob.specs.Tokens.{token_of, tokens_of}
 use Rattle.filterset_glob.proofs.Passing.{moves_then, moves_over}
 use Rattle.filterset_glob.proofs.Runs.{moves_one, moves_over_some, fewer_nodes, counted_some}
+use Rattle.filterset_glob.specs.Matching.{Matches, TakesOne, node_count}
+use Rattle.filterset_glob.specs.{Positions.Moves, Tokens.token_of, Tokens.tokens_of, declared.token.GlobToken.GlobToken}
 use Rattle.filterset_glob.proofs.matcher.pass_run.Goals as goal
 
 pub run_over-run-requires-clause-one : goal.run_over-run-requires-clause-one

@@ -1,10 +1,8 @@
 use Rattle.std.proofs.Common.{◌≡◌, ◌-◌, ◌<◌, List, [], ◌∷◌, ◌++◌, length, get_or, take, ap, subst, ◌∙◌, arith}
 use Rattle.std.specs.Str.{chars}
 use Rattle.filterset_glob.specs.declared.token.GlobToken.{GlobToken, Literal}
-use Rattle.filterset_glob.specs.Matching.{Matches}
-use Rattle.filterset_glob.specs.Tokens.{tokens_of}
-use Rattle.filterset_glob.proofs.Endings.{ends_in_byte}
-use Rattle.filterset_glob.proofs.Items.{last_of}
+use Rattle.filterset_glob.specs.{Matching.Matches, Tokens.tokens_of}
+use Rattle.filterset_glob.proofs.{Endings.ends_in_byte, Items.last_of}
 use Rattle.filterset_glob.proofs.matcher.rejects_end.Goals as goal
 
 pub returns-in-Some-Literal : goal.returns-in-Some-Literal

@@ -1,13 +1,11 @@
 use Rattle.std.proofs.Common.{◌≡◌, ℕ, ◌+◌, ◌<◌, List, length, get_or, drop, Ok, sym, ap, ◌∙◌, arith}
 use Rattle.std.proofs.lemmas.List.{at_drop_more, at_drop_all, length_push}
-use Rattle.std.proofs.lemmas.Iterator.{YieldsList-from_chars}
-use Rattle.std.proofs.lemmas.Iterator.Consumers.{YieldsList-turn, YieldsList-end}
+use Rattle.std.proofs.lemmas.Iterator.{YieldsList-from_chars, Consumers.YieldsList-turn, Consumers.YieldsList-end}
 use Rattle.std.proofs.lemmas.Result.{err_from_is_err_and, IfOk-weaker, IfErr-weaker}
 use Rattle.std.specs.Str.{chars}
 use Rattle.filterset_glob.specs.Opened.{state_of}
 use Rattle.filterset_glob.specs.Reading.{State, step, finish, run, reading}
-use Rattle.filterset_glob.proofs.ReadIsSpelled.{run-err}
-use Rattle.filterset_glob.proofs.Opened.{if_fault-weaker}
+use Rattle.filterset_glob.proofs.{ReadIsSpelled.run-err, Opened.if_fault-weaker}
 use Rattle.filterset_glob.proofs.reader.read_tokens.Goals as goal
 
 run-drop : (t : List ℕ) (n c : ℕ) (s : State) → (n < length t) × (c ≡ get_or t n c) → run (drop n t) (Ok s) ≡ run (drop (n + 1) t) (step s c)

@@ -1,7 +1,6 @@
 use Rattle.std.proofs.Common.{◌≡◌, length, drop, Ok}
 use Rattle.std.specs.Str.{chars}
-use Rattle.filterset_glob.specs.Opened.{state_of}
-use Rattle.filterset_glob.specs.Reading.{run, reading}
+use Rattle.filterset_glob.specs.{Opened.state_of, Reading.run, Reading.reading}
 use Rattle.filterset_glob.proofs.reader.read_tokens.Given as goal
 
 -- the rest, read from what stands open, is the whole text read

@@ -1,5 +1,4 @@
-use Rattle.std.proofs.Common.{w64}
-use Rattle.std.proofs.lemmas.Nat.Bits.{bit_at_set_same, bit_at_set_other}
+use Rattle.std.proofs.{Common.w64, lemmas.Nat.Bits.bit_at_set_same, lemmas.Nat.Bits.bit_at_set_other}
 use Rattle.filterset_glob.proofs.word.insert.Goals as goal
 
 pub returns-clause-set : goal.returns-clause-set

@@ -1,5 +1,4 @@
-use Rattle.std.proofs.Common.{arith}
-use Rattle.std.proofs.lemmas.Nat.Bits.{bit_at_and, bit_at-lt}
+use Rattle.std.proofs.{Common.arith, lemmas.Nat.Bits.bit_at_and, lemmas.Nat.Bits.bit_at-lt}
 use Rattle.filterset_glob.proofs.word.intersect.Goals as goal
 
 pub returns-clause-both : goal.returns-clause-both

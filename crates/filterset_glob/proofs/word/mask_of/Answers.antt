@@ -1,8 +1,6 @@
 use Rattle.std.proofs.Common.{◌≡◌, ◌^◌, ap, sym, ◌∙◌, arith, ⊎_elim}
 use Rattle.std.specs.Int.{bit_at}
-use Rattle.std.proofs.lemmas.Bool.{cases_eq}
-use Rattle.std.proofs.lemmas.Nat.{one_shl}
-use Rattle.std.proofs.lemmas.Nat.Bits.{bit_at-pow_same, bit_at-pow_other}
+use Rattle.std.proofs.lemmas.{Bool.cases_eq, Nat.one_shl, Nat.Bits.bit_at-pow_same, Nat.Bits.bit_at-pow_other}
 use Rattle.filterset_glob.proofs.word.mask_of.Goals as goal
 
 pub returns-clause-set : goal.returns-clause-set

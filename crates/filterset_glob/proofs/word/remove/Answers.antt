@@ -1,7 +1,6 @@
 use Rattle.std.proofs.Common.{◌≡◌, ◌+◌, ◌*◌, ◌%◌, ◌^◌, ap, ◌∙◌, arith, bit_xor}
 use Rattle.std.specs.Int.{bit_at}
-use Rattle.std.proofs.lemmas.Nat.{one_shl}
-use Rattle.std.proofs.lemmas.Nat.Bits.{bit_at_xor, bit_at-pow_same, bit_at-pow_other, bit_at-lt}
+use Rattle.std.proofs.lemmas.Nat.{one_shl, Bits.bit_at_xor, Bits.bit_at-pow_same, Bits.bit_at-pow_other, Bits.bit_at-lt}
 use Rattle.filterset_glob.proofs.word.remove.Goals as goal
 
 pub returns-clause-clear : goal.returns-clause-clear

@@ -1,5 +1,4 @@
-use Rattle.std.proofs.Common.{◌+◌, ◌*◌, ◌%◌, ◌^◌, arith}
-use Rattle.std.proofs.lemmas.Nat.Bits.{bit_at_or}
+use Rattle.std.proofs.{Common.◌+◌, Common.◌*◌, Common.◌%◌, Common.◌^◌, Common.arith, lemmas.Nat.Bits.bit_at_or}
 use Rattle.filterset_glob.proofs.OneWord.{shl_lowest, shl_bit, carry_lowest, carry_above}
 use Rattle.filterset_glob.proofs.word.shift_up.Goals as goal
 

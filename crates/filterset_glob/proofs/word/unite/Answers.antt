@@ -1,7 +1,6 @@
 use Rattle.std.proofs.Common.{inl, inr, arith, ⊎_elim}
 use Rattle.std.specs.Int.{bit_at}
-use Rattle.std.proofs.lemmas.Bool.{cases_eq}
-use Rattle.std.proofs.lemmas.Nat.Bits.{bit_at_or, bit_at-lt}
+use Rattle.std.proofs.lemmas.{Bool.cases_eq, Nat.Bits.bit_at_or, Nat.Bits.bit_at-lt}
 use Rattle.filterset_glob.proofs.word.unite.Goals as goal
 
 pub returns-clause-joined : goal.returns-clause-joined

@@ -1,9 +1,7 @@
 use Rattle.std.proofs.Common.{◌≡◌, ◌≢◌, ℕ, ◌+◌, ◌*◌, ◌/◌, ◌%◌, ◌<◌, length, get_or, ap, sym, subst, ◌∙◌, arith, ⊎_elim, length-set}
 use Rattle.std.specs.Int.{bit_at}
-use Rattle.std.proofs.lemmas.Bool.{cases_lt}
-use Rattle.std.proofs.lemmas.List.{get_or-set_other}
-use Rattle.filterset_glob.specs.Matching.{Admits}
-use Rattle.filterset_glob.specs.Tokens.{token_of}
+use Rattle.std.proofs.lemmas.{Bool.cases_lt, List.get_or-set_other}
+use Rattle.filterset_glob.specs.{Matching.Admits, Tokens.token_of}
 use Rattle.filterset_glob.proofs.PositionSets.{Has-word, Has-set_other, Has-set_same, Has-within}
 use Rattle.filterset_glob.proofs.words.keep_later.Goals as goal
 

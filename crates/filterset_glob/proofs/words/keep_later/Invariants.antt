@@ -1,7 +1,5 @@
 use Rattle.std.proofs.Common.{◌≡◌, ℕ, ◌+◌, ◌*◌, ◌≤◌, ◌<◌, length, get_or, slice_index}
-use Rattle.filterset_glob.specs.Words.{Has}
-use Rattle.filterset_glob.specs.Matching.{Admits}
-use Rattle.filterset_glob.specs.Tokens.{token_of}
+use Rattle.filterset_glob.specs.{Words.Has, Matching.Admits, Tokens.token_of}
 use Rattle.filterset_glob.proofs.words.keep_later.Given as goal
 
 abbrev pub invariant-loop-at : goal.invariant-loop-at

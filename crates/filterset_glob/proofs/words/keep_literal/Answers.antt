@@ -1,8 +1,7 @@
 use Rattle.std.proofs.Common.{◌≡◌, ◌≢◌, ap, sym, subst, ◌∙◌, arith, ⊎_elim, slice_index}
 use Rattle.std.specs.Int.{bit_at}
 use Rattle.std.proofs.lemmas.Bool.{cases_eq}
-use Rattle.filterset_glob.specs.Matching.{Admits}
-use Rattle.filterset_glob.specs.Tokens.{token_of}
+use Rattle.filterset_glob.specs.{Matching.Admits, Tokens.token_of}
 use Rattle.filterset_glob.proofs.words.keep_literal.Goals as goal
 
 pub returns-clause-kept : goal.returns-clause-kept

@@ -1,6 +1,5 @@
 use Rattle.std.proofs.Common.{take}
-use Rattle.filterset_graph.specs.Index.{PositionsAre}
-use Rattle.filterset_graph.specs.Packages.{ids}
+use Rattle.filterset_graph.specs.{Index.PositionsAre, Packages.ids}
 use Rattle.filterset_graph.proofs.index.positions_of.Given as goal
 
 abbrev pub invariant-loop-at : goal.invariant-loop-at

@@ -1,7 +1,6 @@
 use Rattle.std.proofs.Common.{◌≡◌, length, arith}
 use Rattle.filterset_graph.specs.PartRefusals.{IsRefusalOfLinks}
-use Rattle.filterset_graph.proofs.Rows.{AreRows-push}
-use Rattle.filterset_graph.proofs.Refused.{handed_on, IsTrueOfLinks-from_row}
+use Rattle.filterset_graph.proofs.{Rows.AreRows-push, Refused.handed_on, Refused.IsTrueOfLinks-from_row}
 use Rattle.filterset_graph.proofs.index.resolve_links.Goals as goal
 
 pub returns-in_err-resolve_row-clause-refused : goal.returns-in_err-resolve_row-clause-refused

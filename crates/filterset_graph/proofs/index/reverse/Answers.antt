@@ -1,9 +1,6 @@
 use Rattle.std.proofs.Common.{Vec, drop, ◌≡◌, ◌<◌, ℕ, Some, length, get_or, arith, sym, ◌∙◌, ap}
-use Rattle.std.specs.Prelude.{slice_get}
-use Rattle.std.specs.Global.{Global}
-use Rattle.std.proofs.lemmas.List.{take_at}
-use Rattle.std.proofs.lemmas.List.Elements.{Contains-get_or}
-use Rattle.std.proofs.lemmas.Option.{slice_get-get_or}
+use Rattle.std.specs.{Prelude.slice_get, Global.Global}
+use Rattle.std.proofs.lemmas.{List.take_at, List.Elements.Contains-get_or, Option.slice_get-get_or}
 use Rattle.filterset_graph.specs.Index.{AddsEdges}
 use Rattle.filterset_graph.proofs.Rows.{ReversedBelow-none, ReversedBelow-more, ReversedBelow-all}
 use Rattle.filterset_graph.proofs.index.reverse.Goals as goal

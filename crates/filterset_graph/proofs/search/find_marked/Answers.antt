@@ -1,8 +1,7 @@
-use Rattle.std.proofs.Common.{◌<◌, length, true, arith}
-use Rattle.std.proofs.lemmas.Option.{slice_get_within}
+use Rattle.std.proofs.{Common.◌<◌, Common.length, Common.true, Common.arith, lemmas.Option.slice_get_within}
 use Rattle.filterset_graph.proofs.Steps.{ListsMarked-push, ListsMarked-skip}
-use Rattle.filterset_graph.proofs.search.find_marked.Goals as goal
 use Rattle.filterset_graph.proofs.search.find_marked.Goals.{then-marked+in_ok-push, else-marked}
+use Rattle.filterset_graph.proofs.search.find_marked.Goals as goal
 
 pub loop-position-preserved : goal.loop-position-preserved
 loop-position-preserved c =

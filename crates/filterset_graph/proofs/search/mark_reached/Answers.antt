@@ -1,9 +1,6 @@
 use Rattle.std.proofs.Common.{Vec, drop, ◌≡◌, ◌<◌, ℕ, Some, length, get_or, arith, Contains, sym, ◌∙◌, ap}
-use Rattle.std.proofs.lemmas.List.{take_at}
-use Rattle.std.proofs.lemmas.List.Elements.{Contains-get_or}
-use Rattle.std.proofs.lemmas.Option.{slice_get-get_or}
-use Rattle.std.specs.Prelude.{slice_get}
-use Rattle.std.specs.declared.alloc.Global.{Global}
+use Rattle.std.proofs.lemmas.{List.take_at, List.Elements.Contains-get_or, Option.slice_get-get_or}
+use Rattle.std.specs.{Prelude.slice_get, declared.alloc.Global.Global}
 use Rattle.filterset_graph.proofs.Steps.{Spreads-pending_within, Spreads-step, Spreads-done}
 use Rattle.filterset_graph.proofs.search.mark_reached.Goals as goal
 

@@ -1,9 +1,8 @@
 use Rattle.std.proofs.Common.{rules, ◌≡◌, ◌∙◌, sym}
 use Rattle.serde_json.specs.View.{view, members_view}
-use Rattle.filterset_json.proofs.RefusalLemmas.{Refuses-not}
-use Rattle.filterset_json.proofs.ShapeLemmas.{as_object-Some, keys-Decides}
-use Rattle.filterset_json.proofs.object.check_keys.Goals as goal
+use Rattle.filterset_json.proofs.{RefusalLemmas.Refuses-not, ShapeLemmas.as_object-Some, ShapeLemmas.keys-Decides}
 use Rattle.filterset_json.proofs.object.check_keys.Goals.{in_default-via-in-Some+else-has_keys_among, in_default-via-in_default}
+use Rattle.filterset_json.proofs.object.check_keys.Goals as goal
 
 pub returns-in-Some-clause-ok : goal.returns-in-Some-clause-ok
 returns-in-Some-clause-ok c =

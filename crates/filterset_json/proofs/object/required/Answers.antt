@@ -1,9 +1,6 @@
 use Rattle.std.proofs.Common.{rules, ◌≡◌, None, ap, string_bytes, sym, ◌∙◌, []}
-use Rattle.serde_json.specs.Find.{get}
-use Rattle.serde_json.specs.View.{view}
-use Rattle.filterset_json.specs.Paths.{joined, key_text}
-use Rattle.filterset_json.specs.Places.{Place}
-use Rattle.filterset_json.specs.declared.path.Step.TheVariants.{Key}
+use Rattle.serde_json.specs.{Find.get, View.view}
+use Rattle.filterset_json.specs.{Paths.joined, Paths.key_text, Places.Place, declared.path.Step.TheVariants.Key}
 use Rattle.filterset_json.proofs.RefusalLemmas.{Names-after, Names-whole, missing_key}
 use Rattle.filterset_json.proofs.object.required.Goals as goal
 

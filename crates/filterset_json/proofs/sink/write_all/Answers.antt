@@ -1,5 +1,4 @@
-use Rattle.std.proofs.Common.{◌++◌, take, ◌∙◌}
-use Rattle.std.proofs.lemmas.List.{take_rest}
+use Rattle.std.proofs.{Common.◌++◌, Common.take, Common.◌∙◌, lemmas.List.take_rest}
 use Rattle.filterset_json.proofs.BytesLemmas.{Appends-then, three_pieces, unmarked}
 use Rattle.filterset_json.proofs.sink.write_all.Goals as goal
 

@@ -2,8 +2,7 @@ use Rattle.std.proofs.Common.{rules, ◌≡◌, map, refl, sym, ◌∙◌, ap, s
 use Rattle.std.proofs.lemmas.Result.{IfOk-weaker}
 use Rattle.std.specs.Prelude.{zip}
 use Rattle.filterset_expression.specs.Connectives.{kleene, kleene_not}
-use Rattle.filterset_expression.specs.Contexts.{default_of}
-use Rattle.filterset_expression.specs.declared.logic.Connective.TheVariants.{Conjunction}
+use Rattle.filterset_expression.specs.{Contexts.default_of, declared.logic.Connective.TheVariants.Conjunction}
 use Rattle.filterset_grammar.specs.Tree.{Not, Union, Join}
 use Rattle.filterset_grammar.specs.declared.operators.Joiner.TheVariants.{Both, Without, ExactlyOne}
 use Rattle.filterset_language.specs.Views.{tree_of}

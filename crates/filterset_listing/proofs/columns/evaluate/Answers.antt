@@ -1,13 +1,10 @@
-use Rattle.std.proofs.Common.{◌≡◌, ◌∙◌, ap, refl, sym, take}
-use Rattle.std.proofs.lemmas.List.{take_all}
-use Rattle.filterset_expression.specs.Contexts.{default_of}
-use Rattle.filterset_expression.specs.Expression.{formula, with_default}
+use Rattle.std.proofs.{Common.◌≡◌, Common.◌∙◌, Common.ap, Common.refl, Common.sym, Common.take, lemmas.List.take_all}
+use Rattle.filterset_expression.specs.{Contexts.default_of, Expression.formula, Expression.with_default}
 use Rattle.filterset_expression.specs.FlatSteps.{postfix}
 use Rattle.filterset_listing.specs.SubjectValues.{HasValue}
-use Rattle.filterset_listing.proofs.Defaults.{alike}
-use Rattle.filterset_listing.proofs.ListingLemmas.{AllZip-push, one_more}
-use Rattle.filterset_listing.proofs.columns.evaluate.Goals as goal
+use Rattle.filterset_listing.proofs.{Defaults.alike, ListingLemmas.AllZip-push, ListingLemmas.one_more}
 use Rattle.filterset_listing.proofs.columns.evaluate.Goals.{then-has_default_leaf, else-has_default_leaf}
+use Rattle.filterset_listing.proofs.columns.evaluate.Goals as goal
 
 pub returns : goal.returns
 returns c packages e is =

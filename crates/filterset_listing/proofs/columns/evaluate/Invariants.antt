@@ -1,6 +1,5 @@
 use Rattle.std.proofs.Common.{List, take}
-use Rattle.filterset_expression.specs.Contexts.{default_of}
-use Rattle.filterset_expression.specs.Meaning.{IsCompiled}
+use Rattle.filterset_expression.specs.{Contexts.default_of, Meaning.IsCompiled}
 use Rattle.filterset_faults.specs.declared.span.SourceSpan.{SourceSpan}
 use Rattle.filterset_grammar.specs.Tree.{Tree}
 use Rattle.filterset_graph.specs.declared.package.PackageMetadata.{PackageMetadata}

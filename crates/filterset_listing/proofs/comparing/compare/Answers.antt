@@ -1,8 +1,6 @@
-use Rattle.std.proofs.Common.{◌∷◌, [], subst, sym, take}
-use Rattle.std.proofs.lemmas.List.{take_all}
+use Rattle.std.proofs.{Common.◌∷◌, Common.[], Common.subst, Common.sym, Common.take, lemmas.List.take_all}
 use Rattle.filterset_expression.specs.Contexts.{default_of}
-use Rattle.filterset_listing.specs.Comparing.{IsBinaryDifference}
-use Rattle.filterset_listing.specs.Overrides.{AreLaid}
+use Rattle.filterset_listing.specs.{Comparing.IsBinaryDifference, Overrides.AreLaid}
 use Rattle.filterset_listing.specs.Pickers.{expr_picker, tree_picker}
 use Rattle.filterset_listing.proofs.ListingLemmas.{AllZip-push, one_more}
 use Rattle.filterset_listing.proofs.PickerLemmas.{all_differences_alike, compiled_alike, used_alike}

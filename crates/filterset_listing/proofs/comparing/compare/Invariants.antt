@@ -1,8 +1,7 @@
 use Rattle.std.proofs.Common.{take}
 use Rattle.std.specs.List.{AllZip}
 use Rattle.filterset_expression.specs.Contexts.{default_of}
-use Rattle.filterset_listing.specs.Comparing.{IsBinaryDifference}
-use Rattle.filterset_listing.specs.Pickers.{expr_picker}
+use Rattle.filterset_listing.specs.{Comparing.IsBinaryDifference, Pickers.expr_picker}
 use Rattle.filterset_listing.proofs.comparing.compare.Given as goal
 
 -- the binaries so far are compared

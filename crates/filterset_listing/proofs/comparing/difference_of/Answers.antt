@@ -1,13 +1,8 @@
 use Rattle.std.proofs.Common.{rules, ◌≡◌, ◌++◌, ◌∙◌, ap, get_or, refl, subst, sym, take}
 use Rattle.std.proofs.lemmas.List.{take_all}
-use Rattle.filterset_listing.specs.Comparing.{is_of, tests_in}
-use Rattle.filterset_listing.specs.Groups.{known_of}
-use Rattle.filterset_listing.specs.Listing.{one_of}
-use Rattle.filterset_listing.specs.Overrides.{AreTold}
-use Rattle.filterset_listing.specs.Pickers.{Answers, expr_picker}
-use Rattle.filterset_listing.proofs.DividesLemmas.{Divides-push}
-use Rattle.filterset_listing.proofs.GroupLemmas.{says_of}
-use Rattle.filterset_listing.proofs.ListingLemmas.{one_more}
+use Rattle.filterset_listing.specs.{Comparing.is_of, Comparing.tests_in, Groups.known_of, Listing.one_of}
+use Rattle.filterset_listing.specs.{Overrides.AreTold, Pickers.Answers, Pickers.expr_picker}
+use Rattle.filterset_listing.proofs.{DividesLemmas.Divides-push, GroupLemmas.says_of, ListingLemmas.one_more}
 use Rattle.filterset_listing.proofs.PickerLemmas.{expr_answers}
 use Rattle.filterset_listing.proofs.comparing.difference_of.Goals as goal
 

@@ -1,10 +1,7 @@
 use Rattle.std.proofs.Common.{◌≡◌, List, take}
-use Rattle.filterset_expression.specs.FlatExpressions.{IsFlat}
-use Rattle.filterset_expression.specs.declared.expression.CompiledExpr.{CompiledExpr}
+use Rattle.filterset_expression.specs.{FlatExpressions.IsFlat, declared.expression.CompiledExpr.CompiledExpr}
 use Rattle.filterset_listing.specs.Comparing.{Divides, tests_in}
-use Rattle.filterset_listing.specs.Overrides.{AreLaid}
-use Rattle.filterset_listing.specs.Pickers.{expr_picker}
-use Rattle.filterset_listing.specs.declared.groups.GroupOverride.{GroupOverride}
+use Rattle.filterset_listing.specs.{Overrides.AreLaid, Pickers.expr_picker, declared.groups.GroupOverride.GroupOverride}
 use Rattle.filterset_listing.proofs.comparing.difference_of.Given as goal
 
 -- the answers are kept, and the tests so far are divided

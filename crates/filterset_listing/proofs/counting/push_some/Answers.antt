@@ -1,7 +1,6 @@
 use Rattle.std.proofs.Common.{rules, arith, ◌≡◌, ◌++◌, ◌<◌, ℕ, zero, suc, refl}
 use Rattle.std.specs.Prelude.{decimal}
-use Rattle.filterset_listing.specs.Asking.{Text}
-use Rattle.filterset_listing.specs.ListText.{some_text}
+use Rattle.filterset_listing.specs.{Asking.Text, ListText.some_text}
 use Rattle.filterset_listing.proofs.counting.push_some.Goals as goal
 
 -- the text if the count is not 0

@@ -1,11 +1,10 @@
-use Rattle.std.proofs.Common.{None, inl, inr, subst, sym}
-use Rattle.std.proofs.lemmas.Result.{on_ok_weaker}
+use Rattle.std.proofs.{Common.None, Common.inl, Common.inr, Common.subst, Common.sym, lemmas.Result.on_ok_weaker}
 use Rattle.filterset_language.specs.Views.{leaf_of, tree_of}
 use Rattle.filterset_listing.specs.Columns.{first_of, second_of, values_of}
 use Rattle.filterset_listing.specs.Explaining.{AddsNode, Explains, shared_value}
 use Rattle.filterset_listing.proofs.NodeLemmas.{IsOfTwo, leaf_explained, not_explained, operands_explained}
-use Rattle.filterset_listing.proofs.explaining.+push_nodes.Goals as goal
 use Rattle.filterset_listing.proofs.explaining.+push_nodes.Goals.{in-Union, in-Union-2}
+use Rattle.filterset_listing.proofs.explaining.+push_nodes.Goals as goal
 
 pub returns-in_ok-push_node-in-Not : goal.returns-in_ok-push_node-in-Not
 returns-in_ok-push_node-in-Not t c =

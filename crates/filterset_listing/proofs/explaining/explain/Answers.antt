@@ -1,12 +1,10 @@
 use Rattle.std.proofs.Common.{◌≡◌, ◌∙◌, [], None, ap, cond, refl, subst, sym}
 use Rattle.filterset_expression.specs.Contexts.{default_of}
 use Rattle.filterset_language.specs.Views.{tree_of}
-use Rattle.filterset_listing.specs.Columns.{Fits}
-use Rattle.filterset_listing.specs.Explaining.{ExplainsBy, has_unknown}
-use Rattle.filterset_listing.specs.SubjectValues.{Basis}
+use Rattle.filterset_listing.specs.{Columns.Fits, Explaining.ExplainsBy, Explaining.has_unknown, SubjectValues.Basis}
 use Rattle.filterset_listing.proofs.SharedLemmas.{explanation_of}
-use Rattle.filterset_listing.proofs.explaining.explain.Goals as goal
 use Rattle.filterset_listing.proofs.explaining.explain.Goals.{then-has_unknown, else-has_unknown}
+use Rattle.filterset_listing.proofs.explaining.explain.Goals as goal
 
 pub returns : goal.returns
 returns c compiled =

@@ -1,8 +1,7 @@
 use Rattle.std.proofs.Common.{◌+◌, drop, map, ap, refl, subst, sym}
 use Rattle.std.proofs.lemmas.List.{drop_all}
 use Rattle.filterset_expression.specs.FlatExpressions.{IsTold}
-use Rattle.filterset_listing.specs.Asking.{ExprPicks}
-use Rattle.filterset_listing.specs.Overrides.{Finishes, given_of}
+use Rattle.filterset_listing.specs.{Asking.ExprPicks, Overrides.Finishes, Overrides.given_of}
 use Rattle.filterset_listing.proofs.GroupLemmas.{answer_same, answer_told}
 use Rattle.filterset_listing.proofs.WalkLemmas.{finished, from_row, row_at}
 use Rattle.filterset_listing.proofs.groups.answer.Goals as goal

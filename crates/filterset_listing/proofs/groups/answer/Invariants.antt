@@ -1,9 +1,7 @@
 use Rattle.std.proofs.Common.{drop, map}
 use Rattle.std.specs.Prelude.{All}
-use Rattle.filterset_expression.specs.FlatExpressions.{IsFlat}
-use Rattle.filterset_expression.specs.declared.expression.CompiledExpr.{CompiledExpr}
-use Rattle.filterset_listing.specs.Asking.{ExprPicks}
-use Rattle.filterset_listing.specs.Groups.{IsAnswer}
+use Rattle.filterset_expression.specs.{FlatExpressions.IsFlat, declared.expression.CompiledExpr.CompiledExpr}
+use Rattle.filterset_listing.specs.{Asking.ExprPicks, Groups.IsAnswer}
 use Rattle.filterset_listing.specs.Overrides.{Finishes, MayApply, given_of}
 use Rattle.filterset_listing.specs.declared.groups.TestAnswer.{TestAnswer}
 use Rattle.filterset_listing.proofs.groups.answer.Given as goal

@@ -1,6 +1,5 @@
 use Rattle.std.proofs.Common.{◌∙◌, ap, refl, subst, sym}
-use Rattle.filterset_expression.specs.Contexts.{default_of}
-use Rattle.filterset_expression.specs.FlatExpressions.{IsFlat}
+use Rattle.filterset_expression.specs.{Contexts.default_of, FlatExpressions.IsFlat}
 use Rattle.filterset_expression.specs.declared.expression.CompiledExpr.{CompiledExpr}
 use Rattle.filterset_listing.proofs.GroupLemmas.{one_laid, or_all}
 use Rattle.filterset_listing.proofs.groups.lay_out.Goals as goal

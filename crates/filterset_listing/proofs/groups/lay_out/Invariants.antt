@@ -1,8 +1,7 @@
 use Rattle.std.proofs.Common.{◌≡◌, map, take}
 use Rattle.std.specs.Prelude.{All}
 use Rattle.filterset_expression.specs.Contexts.{default_of}
-use Rattle.filterset_listing.specs.Overrides.{IsLaid}
-use Rattle.filterset_listing.specs.declared.groups.FlatOverride.{FlatOverride}
+use Rattle.filterset_listing.specs.{Overrides.IsLaid, declared.groups.FlatOverride.FlatOverride}
 use Rattle.filterset_listing.proofs.groups.lay_out.Given as goal
 
 -- the overrides so far are laid out

@@ -1,7 +1,6 @@
 use Rattle.std.proofs.Common.{◌↔◌, IfOk, IsTrue, subst}
 use Rattle.filterset_expression.specs.Expression.{Holds, Lookup}
-use Rattle.filterset_expression.specs.FlatExpressions.{IsFlat}
-use Rattle.filterset_expression.specs.declared.expression.CompiledExpr.{CompiledExpr}
+use Rattle.filterset_expression.specs.{FlatExpressions.IsFlat, declared.expression.CompiledExpr.CompiledExpr}
 use Rattle.filterset_listing.proofs.groups.picks_in.OwnLists.{reads-GroupLookup-matches_group-1-1}
 use Rattle.filterset_listing.proofs.groups.picks_in.Goals as goal
 

@@ -1,7 +1,5 @@
 use Rattle.std.proofs.Common.{rules, ◌≡◌, ◌∙◌, Some, None, true, ap, cond, subst}
-use Rattle.filterset_listing.specs.Asking.{ExprPicks}
-use Rattle.filterset_listing.specs.Groups.{Covers}
-use Rattle.filterset_listing.specs.Overrides.{Finishes, given_of}
+use Rattle.filterset_listing.specs.{Asking.ExprPicks, Groups.Covers, Overrides.Finishes, Overrides.given_of}
 use Rattle.filterset_listing.specs.declared.groups.Seen.{Seen}
 use Rattle.filterset_listing.proofs.WalkLemmas.{decided, may_of, opened, parted}
 use Rattle.filterset_listing.proofs.groups.step_over.Goals as goal

@@ -1,9 +1,7 @@
 use Rattle.std.proofs.Common.{◌++◌, sym, ◌∙◌, ap, subst}
 use Rattle.filterset_expression.specs.Contexts.{default_of}
 use Rattle.filterset_language.specs.Views.{tree_of}
-use Rattle.filterset_listing.specs.Columns.{Fits}
-use Rattle.filterset_listing.specs.Finding.{unmatched_by, unmatched_of}
-use Rattle.filterset_listing.specs.SubjectValues.{Basis}
+use Rattle.filterset_listing.specs.{Columns.Fits, Finding.unmatched_by, Finding.unmatched_of, SubjectValues.Basis}
 use Rattle.filterset_listing.specs.Unmatched.{AreUnmatched}
 use Rattle.filterset_listing.proofs.FindingLemmas.{unmatched_are}
 use Rattle.filterset_listing.proofs.hints.find_hints.Goals as goal

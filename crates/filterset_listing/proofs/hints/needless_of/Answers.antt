@@ -1,14 +1,10 @@
 use Rattle.std.proofs.Common.{◌≡◌, true, false, List, [], ◌∷◌, ◌++◌, length, map, refl, sym, ◌∙◌, ap, subst}
-use Rattle.std.specs.Prelude.{◌==◌}
-use Rattle.std.specs.List.{list_any}
-use Rattle.std.specs.Option.{unwrap_or}
+use Rattle.std.specs.{Prelude.◌==◌, List.list_any, Option.unwrap_or}
 use Rattle.std.proofs.lemmas.List.{length-map}
 use Rattle.filterset_language.specs.Views.{tree_of}
-use Rattle.filterset_listing.specs.Columns.{values_of}
-use Rattle.filterset_listing.specs.Finding.{AreDeciding, found_of, unmatched_of}
+use Rattle.filterset_listing.specs.{Columns.values_of, Finding.AreDeciding, Finding.found_of, Finding.unmatched_of}
 use Rattle.filterset_listing.specs.Needless.{AreFound, picks_by_all}
-use Rattle.filterset_listing.specs.SubjectValues.{Basis}
-use Rattle.filterset_listing.specs.declared.subjects.Subject.{Subject}
+use Rattle.filterset_listing.specs.{SubjectValues.Basis, declared.subjects.Subject.Subject}
 use Rattle.filterset_listing.proofs.ColumnLemmas.{own_column}
 use Rattle.filterset_listing.proofs.hints.needless_of.Goals as goal
 

@@ -1,13 +1,9 @@
-use Rattle.std.proofs.Common.{◌∷◌, [], subst, sym, take}
-use Rattle.std.proofs.lemmas.List.{take_all}
+use Rattle.std.proofs.{Common.◌∷◌, Common.[], Common.subst, Common.sym, Common.take, lemmas.List.take_all}
 use Rattle.filterset_expression.specs.Contexts.{default_of}
 use Rattle.filterset_expression.proofs.Meanings.{alike, compiled_means}
 use Rattle.filterset_listing.specs.Asking.{ExprCanPick, ExprPicks, TreeCanPick, TreePicks, in_group}
-use Rattle.filterset_listing.specs.Groups.{Says}
-use Rattle.filterset_listing.specs.Listing.{IsBinaryPicks}
-use Rattle.filterset_listing.specs.Overrides.{AreLaid}
-use Rattle.filterset_listing.proofs.GroupLemmas.{says_for}
-use Rattle.filterset_listing.proofs.ListingLemmas.{AllZip-push, one_more}
+use Rattle.filterset_listing.specs.{Groups.Says, Listing.IsBinaryPicks, Overrides.AreLaid}
+use Rattle.filterset_listing.proofs.{GroupLemmas.says_for, ListingLemmas.AllZip-push, ListingLemmas.one_more}
 use Rattle.filterset_listing.proofs.MeaningLemmas.{compiled_can_pick}
 use Rattle.filterset_listing.proofs.PicksLemmas.{all_answers_alike, all_picks_alike}
 use Rattle.filterset_listing.proofs.listing.list.Goals as goal

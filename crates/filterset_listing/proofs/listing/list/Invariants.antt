@@ -1,9 +1,7 @@
 use Rattle.std.proofs.Common.{take}
 use Rattle.std.specs.List.{AllZip}
 use Rattle.filterset_expression.specs.Contexts.{default_of}
-use Rattle.filterset_listing.specs.Asking.{ExprCanPick, ExprPicks}
-use Rattle.filterset_listing.specs.Groups.{Says}
-use Rattle.filterset_listing.specs.Listing.{IsBinaryPicks}
+use Rattle.filterset_listing.specs.{Asking.ExprCanPick, Asking.ExprPicks, Groups.Says, Listing.IsBinaryPicks}
 use Rattle.filterset_listing.proofs.listing.list.Given as goal
 
 -- the binaries so far have their picks

@@ -1,9 +1,6 @@
 use Rattle.std.proofs.Common.{◌≡◌, ◌∙◌, false, get_or, refl, subst, sym, take}
 use Rattle.std.proofs.lemmas.List.{take_all}
-use Rattle.filterset_listing.specs.Asking.{ExprPicks}
-use Rattle.filterset_listing.specs.Groups.{Says}
-use Rattle.filterset_listing.specs.Listing.{no_tests}
-use Rattle.filterset_listing.specs.Overrides.{AreTold}
+use Rattle.filterset_listing.specs.{Asking.ExprPicks, Groups.Says, Listing.no_tests, Overrides.AreTold}
 use Rattle.filterset_listing.proofs.GroupLemmas.{says_of}
 use Rattle.filterset_listing.proofs.ListingLemmas.{Picked-push, can_pick, cannot_pick, is_no_alone, none_picked, one_more}
 use Rattle.filterset_listing.proofs.listing.picks_of.Goals as goal

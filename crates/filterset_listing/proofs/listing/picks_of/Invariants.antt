@@ -1,11 +1,7 @@
 use Rattle.std.proofs.Common.{◌≡◌, List, take}
-use Rattle.filterset_expression.specs.FlatExpressions.{IsFlat}
-use Rattle.filterset_expression.specs.declared.expression.CompiledExpr.{CompiledExpr}
-use Rattle.filterset_listing.specs.Asking.{ExprPicks}
-use Rattle.filterset_listing.specs.Groups.{Says}
-use Rattle.filterset_listing.specs.Listing.{Picked, tests_of, unknown_of}
-use Rattle.filterset_listing.specs.Overrides.{AreLaid}
-use Rattle.filterset_listing.specs.declared.groups.GroupOverride.{GroupOverride}
+use Rattle.filterset_expression.specs.{FlatExpressions.IsFlat, declared.expression.CompiledExpr.CompiledExpr}
+use Rattle.filterset_listing.specs.{Asking.ExprPicks, Groups.Says, Listing.Picked, Listing.tests_of, Listing.unknown_of}
+use Rattle.filterset_listing.specs.{Overrides.AreLaid, declared.groups.GroupOverride.GroupOverride}
 use Rattle.filterset_listing.proofs.listing.picks_of.Given as goal
 
 -- those of the tests so far are picked

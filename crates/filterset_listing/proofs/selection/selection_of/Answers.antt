@@ -1,7 +1,6 @@
 use Rattle.std.proofs.Common.{rules, ◌≡◌}
 use Rattle.filterset_expression.specs.declared.logic.Connective.TheVariants.{Conjunction}
-use Rattle.filterset_expression.specs.Expression.{Default, formula}
-use Rattle.filterset_expression.specs.Formula.{Compound, Leaf}
+use Rattle.filterset_expression.specs.{Expression.Default, Expression.formula, Formula.Compound, Formula.Leaf}
 use Rattle.filterset_listing.proofs.SelectionLemmas.{IsSelection-ignoring, IsSelection-within, selection_means}
 use Rattle.filterset_listing.proofs.selection.selection_of.Goals as goal
 

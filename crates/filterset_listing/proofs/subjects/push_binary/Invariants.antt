@@ -1,9 +1,7 @@
 use Rattle.std.proofs.Common.{◌≡◌, ◌++◌, List, take}
 use Rattle.filterset_expression.specs.declared.expression.CompiledExpr.{CompiledExpr}
-use Rattle.filterset_listing.specs.Overrides.{AreLaid}
-use Rattle.filterset_listing.specs.declared.groups.GroupOverride.{GroupOverride}
-use Rattle.filterset_listing.specs.Subjects.{AreOfName, Parts}
-use Rattle.filterset_listing.specs.declared.subjects.Subject.{Subject}
+use Rattle.filterset_listing.specs.{Overrides.AreLaid, declared.groups.GroupOverride.GroupOverride}
+use Rattle.filterset_listing.specs.{Subjects.AreOfName, Subjects.Parts, declared.subjects.Subject.Subject}
 use Rattle.filterset_listing.proofs.subjects.push_binary.Given as goal
 
 -- the tests so far were added

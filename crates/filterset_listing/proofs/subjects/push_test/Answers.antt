@@ -1,10 +1,9 @@
 use Rattle.std.proofs.Common.{◌∙◌, ◌+◌, ◌∷◌, [], ◌++◌, Some, None, ap, cond, drop, map, refl, subst, sym, true}
-use Rattle.std.proofs.lemmas.Bool.{false≢true}
-use Rattle.std.proofs.lemmas.List.{append-nil, drop_all}
+use Rattle.std.proofs.lemmas.{Bool.false≢true, List.append-nil, List.drop_all}
 use Rattle.filterset_listing.specs.Overrides.{MayApply, given_of}
 use Rattle.filterset_listing.proofs.SubjectLemmas.{Walked, begins, ended, left_from, more_added, opened, passed, surely}
-use Rattle.filterset_listing.proofs.subjects.push_test.Goals as goal
 use Rattle.filterset_listing.proofs.subjects.push_test.Goals.{then-branch+in_ok-push+else-row, else-branch}
+use Rattle.filterset_listing.proofs.subjects.push_test.Goals as goal
 
 pub loop-row-init : goal.loop-row-init
 loop-row-init c default overrides told =

@@ -1,8 +1,7 @@
 use Rattle.std.proofs.Common.{◌≡◌, ◌++◌, List, drop, map}
 use Rattle.filterset_expression.specs.declared.expression.CompiledExpr.{CompiledExpr}
 use Rattle.filterset_listing.specs.Overrides.{AreTold, given_of}
-use Rattle.filterset_listing.specs.declared.groups.GroupOverride.{GroupOverride}
-use Rattle.filterset_listing.specs.declared.subjects.Subject.{Subject}
+use Rattle.filterset_listing.specs.declared.{groups.GroupOverride.GroupOverride, subjects.Subject.Subject}
 use Rattle.filterset_listing.proofs.SubjectLemmas.{Walked}
 use Rattle.filterset_listing.proofs.subjects.push_test.Given as goal
 

@@ -1,7 +1,6 @@
 use Rattle.std.proofs.Common.{◌∙◌, ◌++◌, ap, subst, sym}
 use Rattle.filterset_expression.specs.Contexts.{default_of}
-use Rattle.filterset_listing.specs.Overrides.{AreLaid, AreTold}
-use Rattle.filterset_listing.specs.Subjects.{AreOfTest, HangsBy}
+use Rattle.filterset_listing.specs.{Overrides.AreLaid, Overrides.AreTold, Subjects.AreOfTest, Subjects.HangsBy}
 use Rattle.filterset_listing.proofs.subjects.subjects_for.Goals as goal
 
 pub returns-in_ok-path-in-Test : goal.returns-in_ok-path-in-Test

@@ -1,10 +1,7 @@
-use Rattle.std.proofs.Common.{subst, sym, take}
-use Rattle.std.proofs.lemmas.List.{take_all}
+use Rattle.std.proofs.{Common.subst, Common.sym, Common.take, lemmas.List.take_all}
 use Rattle.filterset_expression.specs.Contexts.{default_of}
-use Rattle.filterset_listing.specs.Overrides.{AreLaid}
-use Rattle.filterset_listing.proofs.ListingLemmas.{one_more}
-use Rattle.filterset_listing.specs.Subjects.{AreOfBinary, no_parts}
-use Rattle.filterset_listing.proofs.SubjectLemmas.{Parts-push}
+use Rattle.filterset_listing.proofs.{ListingLemmas.one_more, SubjectLemmas.Parts-push}
+use Rattle.filterset_listing.specs.{Overrides.AreLaid, Subjects.AreOfBinary, Subjects.no_parts}
 use Rattle.filterset_listing.proofs.subjects.subjects_of.Goals as goal
 
 pub loop-binary-init : goal.loop-binary-init

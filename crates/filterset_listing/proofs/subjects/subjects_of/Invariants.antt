@@ -1,7 +1,6 @@
 use Rattle.std.proofs.Common.{List, take}
 use Rattle.filterset_expression.specs.declared.expression.CompiledExpr.{CompiledExpr}
-use Rattle.filterset_listing.specs.Overrides.{AreLaid}
-use Rattle.filterset_listing.specs.Subjects.{AreSubjects}
+use Rattle.filterset_listing.specs.{Overrides.AreLaid, Subjects.AreSubjects}
 use Rattle.filterset_listing.specs.declared.groups.GroupOverride.{GroupOverride}
 use Rattle.filterset_listing.proofs.subjects.subjects_of.Given as goal
 

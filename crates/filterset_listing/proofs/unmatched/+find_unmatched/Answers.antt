@@ -1,7 +1,6 @@
 use Rattle.std.proofs.Common.{◌≡◌, true, false, sym, ◌∙◌, ap}
 use Rattle.std.proofs.lemmas.List.{append-nil, map-append}
-use Rattle.std.specs.List.{count_by, list_any}
-use Rattle.std.specs.Option.{is_none, unwrap_or}
+use Rattle.std.specs.{List.count_by, List.list_any, Option.is_none, Option.unwrap_or}
 use Rattle.filterset_listing.specs.Columns.{values_of}
 use Rattle.filterset_listing.proofs.unmatched.+find_unmatched.Goals as goal
 

@@ -1,6 +1,5 @@
 use Rattle.std.specs.Str.{IsUtf8}
-use Rattle.filterset_loading.specs.Files.{IsFaultAt, IsFileFault}
-use Rattle.filterset_loading.specs.declared.fault.FileFault.TheVariants.{NotText}
+use Rattle.filterset_loading.specs.{Files.IsFaultAt, Files.IsFileFault, declared.fault.FileFault.TheVariants.NotText}
 use Rattle.filterset_loading.proofs.FaultLemmas.{OrMemory-weaker, unused_file}
 use Rattle.filterset_loading.proofs.files.read_text.Goals as goal
 

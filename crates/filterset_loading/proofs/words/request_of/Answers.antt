@@ -1,12 +1,10 @@
 use Rattle.std.proofs.Common.{◌≡◌, ◌∙◌, Some, inl, inr, subst, sym}
 use Rattle.std.proofs.lemmas.Result.{IfErr-weaker, IfOk-weaker}
 use Rattle.clap.specs.Words.{found_of, subcommand_name_of}
-use Rattle.clap.specs.declared.parser.matches.ArgMatches.{ArgMatches}
-use Rattle.clap.specs.declared.parser.matches.Found.{Found}
+use Rattle.clap.specs.declared.parser.matches.{ArgMatches.ArgMatches, Found.Found}
 use Rattle.filterset_drawing.specs.Columns.{Text}
 use Rattle.filterset_loading.specs.Words.{IsAsked, IsAskedBy, IsUnasked}
-use Rattle.filterset_loading.specs.declared.fault.CommandFault.{CommandFault}
-use Rattle.filterset_loading.specs.declared.fault.CommandFault.TheVariants.{Missing}
+use Rattle.filterset_loading.specs.declared.fault.CommandFault.{CommandFault, TheVariants.Missing}
 use Rattle.filterset_loading.specs.declared.request.Request.{Request}
 use Rattle.filterset_loading.proofs.words.request_of.Goals as goal
 

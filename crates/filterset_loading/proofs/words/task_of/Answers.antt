@@ -1,13 +1,11 @@
 use Rattle.std.proofs.Common.{rules, ◌≡◌, Some, codes, false, inl, inr, true}
 use Rattle.std.proofs.lemmas.Result.{err_from_is_err_and}
 use Rattle.clap.specs.Words.{found_of, subcommand_name_of}
-use Rattle.clap.specs.declared.parser.matches.ArgMatches.{ArgMatches}
-use Rattle.clap.specs.declared.parser.matches.Found.{Found}
+use Rattle.clap.specs.declared.parser.matches.{ArgMatches.ArgMatches, Found.Found}
 use Rattle.filterset_loading.specs.Words.{Gives, IsAsked, IsGivenFault, IsTask, IsUnasked, IsWordsFault, NamesNoShell}
 use Rattle.filterset_loading.specs.declared.fault.CommandFault.{CommandFault}
 use Rattle.filterset_loading.specs.declared.fault.CommandFault.TheVariants.{Missing, TwoInputs}
-use Rattle.filterset_loading.specs.declared.request.Request.{Request}
-use Rattle.filterset_loading.specs.declared.request.Task.{Task}
+use Rattle.filterset_loading.specs.declared.request.{Request.Request, Task.Task}
 use Rattle.filterset_loading.specs.declared.request.Task.TheVariants.{Answer, Complete, Serve}
 use Rattle.filterset_loading.proofs.words.task_of.Goals as goal
 

@@ -1,5 +1,4 @@
-use Rattle.std.proofs.Common.{inr}
-use Rattle.std.proofs.lemmas.Result.{err_from_is_err_and}
+use Rattle.std.proofs.{Common.inr, lemmas.Result.err_from_is_err_and}
 use Rattle.filterset_loading.proofs.workspace.list_of.Goals as goal
 
 pub returns-in_err-check_packages-clause-refused : goal.returns-in_err-check_packages-clause-refused

@@ -1,5 +1,4 @@
-use Rattle.std.proofs.Common.{sym, ◌∙◌, refl}
-use Rattle.std.proofs.Output.{has_written_of_eq, has_written_append}
+use Rattle.std.proofs.{Common.sym, Common.◌∙◌, Common.refl, Output.has_written_of_eq, Output.has_written_append}
 use Rattle.filterset_matchers.proofs.Chars.{implicit_text}
 use Rattle.filterset_matchers.proofs.printing.write_signed.Goals as goal
 

@@ -1,14 +1,11 @@
 use Rattle.std.proofs.Common.{◌↔◌, ◌++◌, [], ◌∷◌, Bor, IsTrue, get_or, map, subst, sym, take, ◌∙◌}
-use Rattle.std.proofs.lemmas.Bool.{false≢true}
-use Rattle.std.proofs.lemmas.List.{map_more, take_all}
+use Rattle.std.proofs.lemmas.{Bool.false≢true, List.map_more, List.take_all}
 use Rattle.filterset_graph.specs.Packages.{Text}
-use Rattle.filterset_matchers.specs.Matcher.{Matcher, MatchesName}
-use Rattle.filterset_matchers.specs.Matchers.{matcher_of}
-use Rattle.filterset_names.specs.Sieves.{Selects}
-use Rattle.filterset_names.specs.Sieves.Sieves.{no_more}
+use Rattle.filterset_matchers.specs.{Matcher.Matcher, Matcher.MatchesName, Matchers.matcher_of}
+use Rattle.filterset_names.specs.Sieves.{Selects, Sieves.no_more}
 use Rattle.filterset_names.proofs.SieveLemmas.{Selects-left, Selects-taken}
-use Rattle.filterset_names.proofs.matching.matching.Goals as goal
 use Rattle.filterset_names.proofs.matching.matching.Goals.{then-branch+in_ok-push, else-branch}
+use Rattle.filterset_names.proofs.matching.matching.Goals as goal
 
 abbrev text : Bor Text → Text
 text n = n.now

@@ -1,8 +1,6 @@
 use Rattle.std.proofs.Common.{◌≡◌, map, take}
-use Rattle.filterset_matchers.specs.Matcher.{MatchesName}
-use Rattle.filterset_matchers.specs.Matchers.{matcher_of}
-use Rattle.filterset_names.specs.ReadyMatchers.{ready_matcher}
-use Rattle.filterset_names.specs.Sieves.{Selects}
+use Rattle.filterset_matchers.specs.{Matcher.MatchesName, Matchers.matcher_of}
+use Rattle.filterset_names.specs.{ReadyMatchers.ready_matcher, Sieves.Selects}
 use Rattle.filterset_names.proofs.matching.matching.Given as goal
 
 -- the names so far that match

@@ -1,13 +1,10 @@
 use Rattle.std.proofs.Common.{◌↔◌, ◌++◌, [], ◌∷◌, ℕ, Bor, IsTrue, List, map, refl, sym, take, ◌∙◌}
-use Rattle.std.proofs.lemmas.Bool.{false≢true}
-use Rattle.std.proofs.lemmas.List.{take_all, take_more}
+use Rattle.std.proofs.lemmas.{Bool.false≢true, List.take_all, List.take_more}
 use Rattle.filterset_matchers.specs.Matchers.{matcher_of}
-use Rattle.filterset_names.specs.Matched.{PicksSuite, binary_id}
-use Rattle.filterset_names.specs.Sieves.{SelectsAs}
-use Rattle.filterset_names.specs.Sieves.Sieves.{no_more}
+use Rattle.filterset_names.specs.{Matched.PicksSuite, Matched.binary_id, Sieves.SelectsAs, Sieves.Sieves.no_more}
 use Rattle.filterset_names.proofs.SieveLemmas.{as-left, as-taken}
-use Rattle.filterset_names.proofs.matching.matching_suites.Goals as goal
 use Rattle.filterset_names.proofs.matching.matching_suites.Goals.{then-branch+in_ok-push, else-branch}
+use Rattle.filterset_names.proofs.matching.matching_suites.Goals as goal
 
 abbrev text : Bor (List ℕ) → List ℕ
 text n = n.now

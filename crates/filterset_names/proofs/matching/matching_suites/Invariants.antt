@@ -1,8 +1,6 @@
 use Rattle.std.proofs.Common.{◌≡◌, map, take}
 use Rattle.filterset_matchers.specs.Matchers.{matcher_of}
-use Rattle.filterset_names.specs.Matched.{PicksSuite, binary_id}
-use Rattle.filterset_names.specs.ReadyMatchers.{ready_matcher}
-use Rattle.filterset_names.specs.Sieves.{SelectsAs}
+use Rattle.filterset_names.specs.{Matched.PicksSuite, Matched.binary_id, ReadyMatchers.ready_matcher, Sieves.SelectsAs}
 use Rattle.filterset_names.proofs.matching.matching_suites.Given as goal
 
 -- the test binaries so far that match

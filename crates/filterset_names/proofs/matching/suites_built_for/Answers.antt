@@ -1,12 +1,9 @@
 use Rattle.std.proofs.Common.{◌++◌, ◌∷◌, ◌∙◌, [], ℕ, Bor, List, map, refl, sym, take}
-use Rattle.std.proofs.lemmas.Bool.{false≢true}
-use Rattle.std.proofs.lemmas.List.{take_all, take_more}
-use Rattle.filterset_names.specs.Matched.{IsBuiltFor, binary_id}
-use Rattle.filterset_names.specs.Sieves.{SelectsAs}
-use Rattle.filterset_names.specs.Sieves.Sieves.{no_more}
+use Rattle.std.proofs.lemmas.{Bool.false≢true, List.take_all, List.take_more}
+use Rattle.filterset_names.specs.{Matched.IsBuiltFor, Matched.binary_id, Sieves.SelectsAs, Sieves.Sieves.no_more}
 use Rattle.filterset_names.proofs.SieveLemmas.{as-left, as-taken}
-use Rattle.filterset_names.proofs.matching.suites_built_for.Goals as goal
 use Rattle.filterset_names.proofs.matching.suites_built_for.Goals.{then-is_built_for+in_ok-push, else-is_built_for}
+use Rattle.filterset_names.proofs.matching.suites_built_for.Goals as goal
 
 pub loop-suite-init : goal.loop-suite-init
 loop-suite-init c = ([], no_more, rw c.new-found.ensures.items refl)

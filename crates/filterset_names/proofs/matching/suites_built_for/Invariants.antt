@@ -1,6 +1,5 @@
 use Rattle.std.proofs.Common.{map, take}
-use Rattle.filterset_names.specs.Matched.{IsBuiltFor, binary_id}
-use Rattle.filterset_names.specs.Sieves.{SelectsAs}
+use Rattle.filterset_names.specs.{Matched.IsBuiltFor, Matched.binary_id, Sieves.SelectsAs}
 use Rattle.filterset_names.proofs.matching.suites_built_for.Given as goal
 
 -- the test binaries so far that are built for the platform

@@ -1,7 +1,6 @@
 use Rattle.std.proofs.Common.{◌≡◌, ◌<◌, arith, get_or, length, rules, sym, ◌∙◌, ap, List, ℕ, ◌++◌}
 use Rattle.filterset_graph.specs.declared.package.PackageMetadata.{PackageMetadata}
-use Rattle.filterset_names.specs.Matched.{package_name}
-use Rattle.filterset_names.specs.Sieves.{taken_if}
+use Rattle.filterset_names.specs.{Matched.package_name, Sieves.taken_if}
 use Rattle.filterset_names.proofs.SieveLemmas.{called_more}
 use Rattle.filterset_names.proofs.names.package_names.Goals as goal
 

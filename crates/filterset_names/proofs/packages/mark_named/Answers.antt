@@ -1,16 +1,13 @@
 use Rattle.std.proofs.Common.{◌≡◌, ◌<◌, ℕ, ◌+◌, Bool, true, List, [], length, length-append, refl, rules, sym, ◌∙◌, ap, subst, arith}
 use Rattle.std.specs.Prelude.{Some, IsTrue, slice_get, string_bytes}
-use Rattle.std.proofs.lemmas.Option.{slice_get_within, slice_get-get_or, same_Some}
-use Rattle.filterset_graph.specs.Walks.{IsMarked}
-use Rattle.filterset_graph.specs.declared.package.PackageMetadata.{PackageMetadata}
-use Rattle.filterset_matchers.specs.Matcher.{Matcher, MatchesName}
-use Rattle.filterset_matchers.specs.Matchers.{matcher_of}
-use Rattle.std.proofs.lemmas.Bool.{false≢true}
+use Rattle.std.proofs.lemmas.{Option.slice_get_within, Option.slice_get-get_or, Option.same_Some, Bool.false≢true}
+use Rattle.filterset_graph.specs.{Walks.IsMarked, declared.package.PackageMetadata.PackageMetadata}
+use Rattle.filterset_matchers.specs.{Matcher.Matcher, Matcher.MatchesName, Matchers.matcher_of}
 use Rattle.filterset_names.specs.ReadyMatchers.{ready_matcher}
+use Rattle.filterset_names.proofs.packages.mark_named.Goals.{then-package+in_ok-is_named, else-package}
 use Rattle.nextest_filtering.specs.PackageMarks.{IsNamedAt}
 use Rattle.nextest_filtering.proofs.PackageSets.{marked_one_more}
 use Rattle.filterset_names.proofs.packages.mark_named.Goals as goal
-use Rattle.filterset_names.proofs.packages.mark_named.Goals.{then-package+in_ok-is_named, else-package}
 
 pub loop-package-init : goal.loop-package-init
 loop-package-init c =

@@ -1,15 +1,12 @@
-use Rattle.std.proofs.Common.{◌↔◌, Bool, List, subst, sym}
+use Rattle.std.proofs.{Common.◌↔◌, Common.Bool, Common.List, Common.subst, Common.sym, lemmas.Result.IfOk-weaker}
 use Rattle.std.specs.Prelude.{IfOk}
-use Rattle.std.proofs.lemmas.Result.{IfOk-weaker}
 use Rattle.filterset_graph.specs.Marked.{MarksReached, MarksReaching}
-use Rattle.filterset_graph.specs.Packages.{Text}
-use Rattle.filterset_graph.specs.declared.package.PackageMetadata.{PackageMetadata}
+use Rattle.filterset_graph.specs.{Packages.Text, declared.package.PackageMetadata.PackageMetadata}
 use Rattle.filterset_matchers.specs.Matchers.{matcher_of}
 use Rattle.filterset_expression.specs.Meaning.{IsDependency, IsDependent}
 use Rattle.nextest_filtering.specs.PackageMarks.{IsMarkedMember, MarksNamed}
 use Rattle.nextest_filtering.proofs.PackageSets as sets
-use Rattle.filterset_names.specs.Matched.{PicksId}
-use Rattle.filterset_names.specs.declared.packages.Reach.{Reach}
+use Rattle.filterset_names.specs.{Matched.PicksId, declared.packages.Reach.Reach}
 use Rattle.filterset_names.proofs.MarkLemmas.{named_members}
 use Rattle.filterset_names.proofs.packages.mark_picked.Goals as goal
 

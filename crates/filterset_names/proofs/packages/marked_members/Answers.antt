@@ -1,15 +1,10 @@
 use Rattle.std.proofs.Common.{◌≡◌, ◌<◌, ◌++◌, ◌&&◌, [], ◌∷◌, false, Bor, arith, ap, get_or, length, map, refl, subst, sym, take, ◌∙◌}
 use Rattle.std.specs.Prelude.{Some, slice_get}
-use Rattle.std.proofs.lemmas.List.{take_all, take_more}
-use Rattle.std.proofs.lemmas.Option.{slice_get-get_or}
-use Rattle.filterset_graph.specs.Packages.{Text}
-use Rattle.filterset_graph.specs.declared.package.PackageMetadata.{PackageMetadata}
+use Rattle.std.proofs.lemmas.{List.take_all, List.take_more, Option.slice_get-get_or}
+use Rattle.filterset_graph.specs.{Packages.Text, declared.package.PackageMetadata.PackageMetadata}
 use Rattle.nextest_filtering.specs.PackageMarks.{IsMarkedMember}
-use Rattle.filterset_names.specs.Matched.{package_name}
-use Rattle.filterset_names.specs.Sieves.{SelectsAs}
-use Rattle.filterset_names.specs.Sieves.Sieves.{no_more}
-use Rattle.filterset_names.proofs.MarkLemmas.{member_here}
-use Rattle.filterset_names.proofs.SieveLemmas.{as-next}
+use Rattle.filterset_names.specs.{Matched.package_name, Sieves.SelectsAs, Sieves.Sieves.no_more}
+use Rattle.filterset_names.proofs.{MarkLemmas.member_here, SieveLemmas.as-next}
 use Rattle.filterset_names.proofs.packages.marked_members.Goals as goal
 
 abbrev text : Bor Text → Text

@@ -1,6 +1,5 @@
 use Rattle.std.proofs.Common.{map, take}
-use Rattle.filterset_names.specs.Matched.{package_name}
-use Rattle.filterset_names.specs.Sieves.{SelectsAs}
+use Rattle.filterset_names.specs.{Matched.package_name, Sieves.SelectsAs}
 use Rattle.nextest_filtering.specs.PackageMarks.{IsMarkedMember}
 use Rattle.filterset_names.proofs.packages.marked_members.Given as goal
 

@@ -1,11 +1,9 @@
 use Rattle.std.proofs.Common.{ℕ, Bool, Bor, List, map, subst, sym}
 use Rattle.std.proofs.lemmas.Result.{IfOk-weaker}
-use Rattle.filterset_graph.specs.Packages.{AllDiffer, ids}
-use Rattle.filterset_graph.specs.declared.package.PackageMetadata.{PackageMetadata}
+use Rattle.filterset_graph.specs.{Packages.AllDiffer, Packages.ids, declared.package.PackageMetadata.PackageMetadata}
 use Rattle.filterset_matchers.specs.Matchers.{matcher_of}
 use Rattle.nextest_filtering.specs.PackageMarks.{IsMarkedMember}
-use Rattle.filterset_names.specs.Matched.{PicksPackage, package_name}
-use Rattle.filterset_names.specs.Sieves.{SelectsAs}
+use Rattle.filterset_names.specs.{Matched.PicksPackage, Matched.package_name, Sieves.SelectsAs}
 use Rattle.filterset_names.proofs.SieveLemmas.{as-same}
 use Rattle.filterset_names.proofs.packages.picked_packages.Goals as goal
 

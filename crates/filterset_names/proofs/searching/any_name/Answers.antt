@@ -1,10 +1,7 @@
 use Rattle.std.proofs.Common.{◌≡◌, ◌<◌, ◌≤◌, ◌∙◌, [], ℕ, Bor, List, get_or, length, map, subst, sym}
-use Rattle.std.proofs.lemmas.Bool.{false≢true}
-use Rattle.std.proofs.lemmas.List.{get_or-map, length-map}
-use Rattle.std.proofs.lemmas.List.Elements.{All-more}
+use Rattle.std.proofs.lemmas.{Bool.false≢true, List.get_or-map, List.length-map, List.Elements.All-more}
 use Rattle.filterset_graph.specs.Packages.{Text}
-use Rattle.filterset_matchers.specs.Matcher.{Matcher, MatchesName}
-use Rattle.filterset_matchers.specs.Matchers.{matcher_of}
+use Rattle.filterset_matchers.specs.{Matcher.Matcher, Matcher.MatchesName, Matchers.matcher_of}
 use Rattle.filterset_names.proofs.AnyLemmas.{found, not_found}
 use Rattle.filterset_names.proofs.searching.any_name.Goals as goal
 

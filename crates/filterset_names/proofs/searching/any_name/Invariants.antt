@@ -1,7 +1,6 @@
 use Rattle.std.proofs.Common.{◌≡◌, map, take}
 use Rattle.std.specs.Prelude.{All}
-use Rattle.filterset_matchers.specs.Matcher.{MatchesName}
-use Rattle.filterset_matchers.specs.Matchers.{matcher_of}
+use Rattle.filterset_matchers.specs.{Matcher.MatchesName, Matchers.matcher_of}
 use Rattle.filterset_names.specs.ReadyMatchers.{ready_matcher}
 use Rattle.filterset_names.proofs.searching.any_name.Given as goal
 

@@ -1,15 +1,10 @@
 use Rattle.std.proofs.Common.{◌≡◌, ◌↔◌, ◌∙◌, Bool, List, false, string_bytes, subst, sym, true}
 use Rattle.std.specs.Prelude.{Any, IsTrue}
-use Rattle.std.proofs.lemmas.Bool.{false≢true}
-use Rattle.std.proofs.lemmas.List.Elements.{All-more}
+use Rattle.std.proofs.lemmas.{Bool.false≢true, List.Elements.All-more}
 use Rattle.filterset_graph.specs.declared.package.PackageMetadata.{PackageMetadata}
-use Rattle.filterset_matchers.specs.Matcher.{Matcher, MatchesName}
-use Rattle.filterset_matchers.specs.Matchers.{matcher_of}
-use Rattle.filterset_names.specs.Matched.{PicksPackage}
-use Rattle.filterset_names.specs.Something.{IsMemberNamed}
-use Rattle.filterset_names.specs.declared.packages.Reach.{Reach}
-use Rattle.filterset_names.proofs.AnyLemmas.{found, not_found}
-use Rattle.filterset_names.proofs.SomethingLemmas.{picks_some}
+use Rattle.filterset_matchers.specs.{Matcher.Matcher, Matcher.MatchesName, Matchers.matcher_of}
+use Rattle.filterset_names.specs.{Matched.PicksPackage, Something.IsMemberNamed, declared.packages.Reach.Reach}
+use Rattle.filterset_names.proofs.{AnyLemmas.found, AnyLemmas.not_found, SomethingLemmas.picks_some}
 use Rattle.filterset_names.proofs.searching.any_picked.Goals as goal
 
 -- a package is meant where one is named

@@ -1,8 +1,7 @@
 use Rattle.std.proofs.Common.{◌≡◌, take}
 use Rattle.std.specs.Prelude.{All}
 use Rattle.filterset_matchers.specs.Matchers.{matcher_of}
-use Rattle.filterset_names.specs.ReadyMatchers.{ready_matcher}
-use Rattle.filterset_names.specs.Something.{IsMemberNamed}
+use Rattle.filterset_names.specs.{ReadyMatchers.ready_matcher, Something.IsMemberNamed}
 use Rattle.filterset_names.proofs.searching.any_picked.Given as goal
 
 -- no package so far is of the workspace and matches

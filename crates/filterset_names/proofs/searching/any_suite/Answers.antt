@@ -1,8 +1,5 @@
-use Rattle.std.proofs.Common.{◌∙◌, subst, sym}
-use Rattle.std.proofs.lemmas.Bool.{false≢true}
-use Rattle.std.proofs.lemmas.List.Elements.{All-more}
-use Rattle.filterset_matchers.specs.Matcher.{Matcher, MatchesName}
-use Rattle.filterset_matchers.specs.Matchers.{matcher_of}
+use Rattle.std.proofs.{Common.◌∙◌, Common.subst, Common.sym, lemmas.Bool.false≢true, lemmas.List.Elements.All-more}
+use Rattle.filterset_matchers.specs.{Matcher.Matcher, Matcher.MatchesName, Matchers.matcher_of}
 use Rattle.filterset_sources.specs.declared.list.Suite.{Suite}
 use Rattle.filterset_names.specs.Matched.{PicksSuite}
 use Rattle.filterset_names.proofs.AnyLemmas.{found, not_found}

@@ -1,8 +1,7 @@
 use Rattle.std.proofs.Common.{◌≡◌, take}
 use Rattle.std.specs.Prelude.{All}
 use Rattle.filterset_matchers.specs.Matchers.{matcher_of}
-use Rattle.filterset_names.specs.Matched.{PicksSuite}
-use Rattle.filterset_names.specs.ReadyMatchers.{ready_matcher}
+use Rattle.filterset_names.specs.{Matched.PicksSuite, ReadyMatchers.ready_matcher}
 use Rattle.filterset_names.proofs.searching.any_suite.Given as goal
 
 -- no test binary so far matches

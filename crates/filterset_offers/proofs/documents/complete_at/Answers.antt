@@ -1,15 +1,10 @@
 use Rattle.std.proofs.Common.{◌≡◌, ◌∙◌, ℕ, ap, false, inl, inr, refl, rules, subst, sym, true}
-use Rattle.std.proofs.lemmas.Bool.{false≢true}
-use Rattle.std.proofs.lemmas.Result.{IfOk-weaker}
-use Rattle.serde_json.specs.View.{view}
-use Rattle.serde_json.specs.declared.value.Value.{the_lemmas}
-use Rattle.serde_json.specs.declared.value.Value.TheVariants.{Null}
-use Rattle.filterset_entries.specs.Checked.{text_row}
-use Rattle.filterset_entries.specs.Placements.{span_in, spot_of}
+use Rattle.std.proofs.lemmas.{Bool.false≢true, Result.IfOk-weaker}
+use Rattle.serde_json.specs.{View.view, declared.value.Value.the_lemmas, declared.value.Value.TheVariants.Null}
+use Rattle.filterset_entries.specs.{Checked.text_row, Placements.span_in, Placements.spot_of}
 use Rattle.filterset_documents.specs.Filtersets.{is_in}
 use Rattle.filterset_names.specs.Workspaces.{known_of}
-use Rattle.filterset_offers.specs.Completion.{CompletesIn, CompletesText}
-use Rattle.filterset_offers.specs.Standing.{GapRows}
+use Rattle.filterset_offers.specs.{Completion.CompletesIn, Completion.CompletesText, Standing.GapRows}
 use Rattle.filterset_offers.proofs.documents.complete_at.Goals as goal
 
 pub returns-then-is_in : goal.returns-then-is_in

@@ -1,6 +1,5 @@
-use Rattle.std.proofs.Common.{◌≡◌, None, Some, map, rules}
+use Rattle.std.proofs.{Common.◌≡◌, Common.None, Common.Some, Common.map, Common.rules, lemmas.Result.IfOk-weaker}
 use Rattle.std.specs.Prelude.{find}
-use Rattle.std.proofs.lemmas.Result.{IfOk-weaker}
 use Rattle.serde_json.specs.declared.value.Value.{the_lemmas}
 use Rattle.filterset_entries.specs.Checked.{text_row}
 use Rattle.filterset_documents.specs.Filtersets.{is_row_at}

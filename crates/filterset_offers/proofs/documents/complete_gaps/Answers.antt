@@ -1,14 +1,11 @@
 use Rattle.std.proofs.Common.{◌≡◌, ◌++◌, List, ap, map, subst, ◌∙◌}
 use Rattle.std.specs.List.{AllZip}
-use Rattle.std.proofs.lemmas.List.{map-append}
-use Rattle.std.proofs.lemmas.Result.{IfOk-weaker}
+use Rattle.std.proofs.lemmas.{List.map-append, Result.IfOk-weaker}
 use Rattle.serde_json.specs.View.{view}
 use Rattle.filterset_entries.specs.Placements.{spot_of}
 use Rattle.filterset_offers.specs.Candidates.{Row, all_rows, row_of}
-use Rattle.filterset_offers.specs.Completion.{IsItem, list_data}
-use Rattle.filterset_offers.specs.Names.{may_lack}
-use Rattle.filterset_offers.specs.Standing.{AreOffered, gap_rows}
-use Rattle.filterset_offers.specs.declared.candidates.Candidate.{Candidate}
+use Rattle.filterset_offers.specs.{Completion.IsItem, Completion.list_data, Names.may_lack}
+use Rattle.filterset_offers.specs.{Standing.AreOffered, Standing.gap_rows, declared.candidates.Candidate.Candidate}
 use Rattle.filterset_offers.proofs.documents.complete_gaps.Goals as goal
 
 pub returns : goal.returns

@@ -1,6 +1,5 @@
 use Rattle.std.proofs.Common.{◌≡◌, ◌-◌, ap, length, subst, sym, ◌∙◌}
-use Rattle.std.specs.List.{suffix_len}
-use Rattle.std.specs.Str.{IsCharBoundary}
+use Rattle.std.specs.{List.suffix_len, Str.IsCharBoundary}
 use Rattle.filterset_offers.specs.Gaps.{is_of}
 use Rattle.filterset_offers.proofs.GapLemmas.{boundary-end}
 use Rattle.filterset_offers.proofs.gaps.cut_end.Goals as goal

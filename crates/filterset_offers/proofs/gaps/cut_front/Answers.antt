@@ -1,6 +1,5 @@
 use Rattle.std.proofs.Common.{◌≡◌, ap, subst, sym, ◌∙◌}
-use Rattle.std.specs.List.{prefix_len}
-use Rattle.std.specs.Str.{IsCharBoundary}
+use Rattle.std.specs.{List.prefix_len, Str.IsCharBoundary}
 use Rattle.filterset_offers.specs.Gaps.{is_of}
 use Rattle.filterset_offers.proofs.GapLemmas.{boundary-front}
 use Rattle.filterset_offers.proofs.gaps.cut_front.Goals as goal

@@ -1,15 +1,9 @@
-use Rattle.std.proofs.Common.{◌≡◌, ap, subst, ◌∙◌}
-use Rattle.std.proofs.lemmas.Result.{IfOk-weaker}
-use Rattle.serde_json.specs.Data.{Data}
-use Rattle.serde_json.specs.View.{view}
+use Rattle.std.proofs.{Common.◌≡◌, Common.ap, Common.subst, Common.◌∙◌, lemmas.Result.IfOk-weaker}
+use Rattle.serde_json.specs.{Data.Data, View.view}
 use Rattle.filterset_entries.specs.Placements.{span_in, spot_of}
-use Rattle.filterset_documents.specs.Edits.{edit_data}
-use Rattle.filterset_documents.specs.Ranges.{IsRange}
+use Rattle.filterset_documents.specs.{Edits.edit_data, Ranges.IsRange}
 use Rattle.filterset_faults.specs.declared.span.SourceSpan.{SourceSpan}
-use Rattle.filterset_offers.specs.Candidates.{row_of}
-use Rattle.filterset_offers.specs.Completion.{item_data}
-use Rattle.filterset_offers.specs.Gaps.{GapRow}
-use Rattle.filterset_offers.specs.Standing.{inserted}
+use Rattle.filterset_offers.specs.{Candidates.row_of, Completion.item_data, Gaps.GapRow, Standing.inserted}
 use Rattle.filterset_offers.proofs.items.item_of.Goals as goal
 
 pub returns : goal.returns

@@ -3,9 +3,7 @@ use Rattle.std.proofs.lemmas.List.{map_more}
 use Rattle.std.specs.List.{AllZip}
 use Rattle.serde_json.specs.View.{view}
 use Rattle.filterset_entries.specs.Placements.{spot_of}
-use Rattle.filterset_offers.specs.Candidates.{Row, row_of}
-use Rattle.filterset_offers.specs.Completion.{IsItem}
-use Rattle.filterset_offers.specs.Standing.{gap_rows}
+use Rattle.filterset_offers.specs.{Candidates.Row, Candidates.row_of, Completion.IsItem, Standing.gap_rows}
 use Rattle.filterset_offers.proofs.StandingLemmas.{zip-pushed}
 use Rattle.filterset_offers.proofs.items.items_of.Goals as goal
 

@@ -2,9 +2,7 @@ use Rattle.std.proofs.Common.{map, take}
 use Rattle.std.specs.List.{AllZip}
 use Rattle.serde_json.specs.View.{view}
 use Rattle.filterset_entries.specs.Placements.{spot_of}
-use Rattle.filterset_offers.specs.Candidates.{row_of}
-use Rattle.filterset_offers.specs.Completion.{IsItem}
-use Rattle.filterset_offers.specs.Standing.{gap_rows}
+use Rattle.filterset_offers.specs.{Candidates.row_of, Completion.IsItem, Standing.gap_rows}
 use Rattle.filterset_offers.proofs.items.items_of.Given as goal
 
 abbrev pub invariant-loop-candidate : goal.invariant-loop-candidate

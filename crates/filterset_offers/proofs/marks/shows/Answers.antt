@@ -1,8 +1,7 @@
 use Rattle.std.proofs.Common.{◌≡◌, ◌==◌, filter, length, map, not, refl, rules}
 use Rattle.filterset_grammar.specs.Tree.{tree_leaves}
 use Rattle.filterset_language.specs.Views.{leaf_of, tree_of}
-use Rattle.filterset_offers.specs.Candidates.{row_of}
-use Rattle.filterset_offers.specs.Marks.{has_some, is_hiding, is_marked}
+use Rattle.filterset_offers.specs.{Candidates.row_of, Marks.has_some, Marks.is_hiding, Marks.is_marked}
 use Rattle.filterset_offers.proofs.StandingLemmas.{seen-some}
 use Rattle.filterset_offers.proofs.marks.shows.Goals as goal
 

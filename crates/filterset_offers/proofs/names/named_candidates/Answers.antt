@@ -1,6 +1,4 @@
-use Rattle.std.proofs.Common.{arith, map}
-use Rattle.std.proofs.lemmas.Grind.{common_steps}
-use Rattle.std.proofs.lemmas.List.{map-append}
+use Rattle.std.proofs.{Common.arith, Common.map, lemmas.Grind.common_steps, lemmas.List.map-append}
 use Rattle.filterset_offers.specs.Candidates.{row_of}
 use Rattle.filterset_offers.proofs.names.named_candidates.Goals as goal
 

@@ -1,6 +1,5 @@
 use Rattle.std.proofs.Common.{map, take}
-use Rattle.filterset_offers.specs.Candidates.{row_of}
-use Rattle.filterset_offers.specs.Standing.{AreFitting, gap_rows}
+use Rattle.filterset_offers.specs.{Candidates.row_of, Standing.AreFitting, Standing.gap_rows}
 use Rattle.filterset_offers.proofs.offering.fitting.Given as goal
 
 abbrev pub invariant-loop-candidate : goal.invariant-loop-candidate

@@ -4,10 +4,7 @@ use Rattle.filterset_editor.specs.Positions.{Text}
 use Rattle.filterset_faults.specs.Span.{offset_of}
 use Rattle.filterset_rewriting.specs.Reading.{IsRead}
 use Rattle.filterset_language.specs.Views.{tree_of}
-use Rattle.filterset_offers.specs.Candidates.{row_of}
-use Rattle.filterset_offers.specs.Gaps.{gap_row}
-use Rattle.filterset_offers.specs.Marks.{shows}
-use Rattle.filterset_offers.specs.Standing.{text_with}
+use Rattle.filterset_offers.specs.{Candidates.row_of, Gaps.gap_row, Marks.shows, Standing.text_with}
 use Rattle.filterset_offers.proofs.standing.stands.Goals as goal
 
 pub returns : goal.returns

@@ -1,7 +1,6 @@
 use Rattle.std.proofs.Common.{Bool, IsTrue, Option, ◌↔◌, subst}
 use Rattle.filterset_expression.specs.Expression.{Holds, Lookup}
-use Rattle.filterset_expression.specs.FlatExpressions.{IsFlat}
-use Rattle.filterset_expression.specs.declared.expression.CompiledExpr.{CompiledExpr}
+use Rattle.filterset_expression.specs.{FlatExpressions.IsFlat, declared.expression.CompiledExpr.CompiledExpr}
 use Rattle.filterset_overrides.specs.Applying.{HasApplication}
 use Rattle.filterset_overrides.proofs.ApplyingLemmas.{applies_as}
 use Rattle.filterset_overrides.proofs.applying.apply_flat.OwnLists.{reads-GroupLookup-matches_group-1-1}

@@ -1,5 +1,4 @@
-use Rattle.std.proofs.Common.{rules}
-use Rattle.std.proofs.lemmas.Result.{IfOk-weaker}
+use Rattle.std.proofs.{Common.rules, lemmas.Result.IfOk-weaker}
 use Rattle.filterset_expression.specs.Contexts.{default_of}
 use Rattle.filterset_overrides.specs.Asking.{IsFilterOf}
 use Rattle.filterset_overrides.proofs.ApplyingLemmas.{filter_is}

@@ -1,11 +1,9 @@
-use Rattle.std.proofs.Common.{rules, List, subst, sym, take}
+use Rattle.std.proofs.{Common.rules, Common.List, Common.subst, Common.sym, Common.take, lemmas.List.take_all}
 use Rattle.std.specs.List.{AllZip}
-use Rattle.std.proofs.lemmas.List.{take_all}
 use Rattle.filterset_expression.specs.Contexts.{default_of}
 use Rattle.filterset_overrides.specs.Applying.{AppliesAs, Test, tests_of, tests_of_one}
 use Rattle.filterset_overrides.specs.Asking.{IsFilterOf}
-use Rattle.filterset_overrides.proofs.ApplyingLemmas.{filter_is}
-use Rattle.filterset_overrides.proofs.ListLemmas.{flat_more}
+use Rattle.filterset_overrides.proofs.{ApplyingLemmas.filter_is, ListLemmas.flat_more}
 use Rattle.filterset_overrides.proofs.applying.apply_to_tests.Goals as goal
 
 pub loop-binary-init : goal.loop-binary-init

@@ -2,8 +2,7 @@ use Rattle.std.proofs.Common.{◌++◌, List, map, take}
 use Rattle.std.specs.List.{AllZip}
 use Rattle.filterset_graph.specs.declared.package.PackageMetadata.{PackageMetadata}
 use Rattle.filterset_expression.specs.declared.expression.CompiledExpr.{CompiledExpr}
-use Rattle.filterset_overrides.specs.Applying.{AppliesAs, IsCompiledOf, Test}
-use Rattle.filterset_overrides.specs.Asking.{IsLaidOut}
+use Rattle.filterset_overrides.specs.{Applying.AppliesAs, Applying.IsCompiledOf, Applying.Test, Asking.IsLaidOut}
 use Rattle.filterset_overrides.proofs.applying.push_applications.Given as goal
 
 -- the tests of the binary so far were added

@@ -1,11 +1,10 @@
 use Rattle.std.proofs.Common.{◌∙◌, All, List, [], ap, map, subst, sym}
+use Rattle.std.proofs.lemmas.List.{take_all}
 use Rattle.filterset_expression.specs.Contexts.{default_of}
 use Rattle.filterset_overrides.specs.Applying.{Text, tests_of}
 use Rattle.filterset_overrides.specs.Counting.{EachAfter, IsGiven, IsRow}
 use Rattle.filterset_overrides.specs.Giving.{AreDistinctOf, all_settings}
-use Rattle.filterset_overrides.specs.declared.asked.AskedOverride.{AskedOverride}
-use Rattle.filterset_overrides.specs.declared.counting.SettingColumn.{SettingColumn}
-use Rattle.std.proofs.lemmas.List.{take_all}
+use Rattle.filterset_overrides.specs.declared.{asked.AskedOverride.AskedOverride, counting.SettingColumn.SettingColumn}
 use Rattle.filterset_overrides.proofs.counting.count_overrides.Goals as goal
 
 pub returns : goal.returns

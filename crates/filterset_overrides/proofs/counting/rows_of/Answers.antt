@@ -1,11 +1,8 @@
 use Rattle.std.proofs.Common.{arith, false, ◌≡◌, ◌++◌, ◌∷◌, [], List, length, take, refl, subst, sym, ◌∙◌}
-use Rattle.std.specs.List.{count_by}
-use Rattle.std.specs.Option.{is_none, unwrap_or}
+use Rattle.std.specs.{List.count_by, Option.is_none, Option.unwrap_or}
 use Rattle.std.proofs.lemmas.List.{length-map, length-take-le}
-use Rattle.filterset_overrides.specs.Applied.{IsApplied, overrides_of}
-use Rattle.filterset_overrides.specs.Counting.{EachAfter, IsRow}
-use Rattle.filterset_overrides.specs.declared.asked.AskedOverride.{AskedOverride}
-use Rattle.filterset_overrides.specs.declared.counting.OverrideRow.{OverrideRow}
+use Rattle.filterset_overrides.specs.{Applied.IsApplied, Applied.overrides_of, Counting.EachAfter, Counting.IsRow}
+use Rattle.filterset_overrides.specs.declared.{asked.AskedOverride.AskedOverride, counting.OverrideRow.OverrideRow}
 use Rattle.filterset_overrides.specs.declared.counting.applied.AppliedOverride.{AppliedOverride}
 use Rattle.filterset_overrides.proofs.ListLemmas.{EachAfter-push, map_more}
 use Rattle.filterset_overrides.proofs.counting.rows_of.Goals as goal

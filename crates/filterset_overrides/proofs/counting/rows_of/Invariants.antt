@@ -1,8 +1,7 @@
 use Rattle.std.proofs.Common.{List, [], take}
 use Rattle.filterset_graph.specs.declared.package.PackageMetadata.{PackageMetadata}
 use Rattle.filterset_expression.specs.declared.expression.CompiledExpr.{CompiledExpr}
-use Rattle.filterset_overrides.specs.Applied.{AreApplied, overrides_of}
-use Rattle.filterset_overrides.specs.Applying.{Test}
+use Rattle.filterset_overrides.specs.{Applied.AreApplied, Applied.overrides_of, Applying.Test}
 use Rattle.filterset_overrides.specs.Counting.{EachAfter, IsRow}
 use Rattle.filterset_overrides.proofs.counting.rows_of.Given as goal
 

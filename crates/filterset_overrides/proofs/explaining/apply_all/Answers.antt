@@ -1,9 +1,7 @@
-use Rattle.std.proofs.Common.{refl, subst, ap, ◌∙◌, sym}
-use Rattle.std.proofs.lemmas.List.Elements.{All-push}
+use Rattle.std.proofs.{Common.refl, Common.subst, Common.ap, Common.◌∙◌, Common.sym, lemmas.List.Elements.All-push}
 use Rattle.filterset_expression.specs.Contexts.{default_of}
 use Rattle.filterset_overrides.specs.Applying.{AppliesAs, IsCompiledOf, Test}
-use Rattle.filterset_overrides.specs.Giving.{asked_of}
-use Rattle.filterset_overrides.specs.declared.applying.ExplainedOverride.{ExplainedOverride}
+use Rattle.filterset_overrides.specs.{Giving.asked_of, declared.applying.ExplainedOverride.ExplainedOverride}
 use Rattle.filterset_overrides.proofs.ListLemmas.{pushed_map}
 use Rattle.filterset_overrides.proofs.explaining.apply_all.Goals as goal
 

@@ -1,8 +1,7 @@
 use Rattle.std.proofs.Common.{◌≡◌, List, All, take}
 use Rattle.filterset_graph.specs.declared.package.PackageMetadata.{PackageMetadata}
 use Rattle.filterset_expression.specs.Contexts.{default_of}
-use Rattle.filterset_overrides.specs.Applying.{IsCompiledOf}
-use Rattle.filterset_overrides.specs.Giving.{AreExplained, asked_of}
+use Rattle.filterset_overrides.specs.{Applying.IsCompiledOf, Giving.AreExplained, Giving.asked_of}
 use Rattle.filterset_overrides.proofs.explaining.apply_all.Given as goal
 
 -- the overrides so far were asked

@@ -1,7 +1,6 @@
 use Rattle.std.proofs.Common.{◌∙◌, [], Bor, List, ℕ, ap, get_or, map, refl}
 use Rattle.std.proofs.lemmas.List.Elements.{All-push}
-use Rattle.filterset_overrides.specs.Applying.{DoesApply}
-use Rattle.filterset_overrides.specs.Giving.{IsGiver, asked_of}
+use Rattle.filterset_overrides.specs.{Applying.DoesApply, Giving.IsGiver, Giving.asked_of}
 use Rattle.filterset_overrides.specs.declared.explaining.ExplainedSetting.{ExplainedSetting}
 use Rattle.filterset_overrides.proofs.ListLemmas.{both_mapped}
 use Rattle.filterset_overrides.proofs.explaining.explain_settings.Goals as goal

@@ -1,8 +1,6 @@
 use Rattle.std.proofs.Common.{◌≡◌, All, List, false, take, drop, suc, refl, subst, sym}
-use Rattle.std.proofs.lemmas.List.{take_all}
-use Rattle.std.proofs.lemmas.List.Elements.{All-push}
-use Rattle.filterset_overrides.specs.Applying.{sets}
-use Rattle.filterset_overrides.specs.declared.asked.AskedProfile.{AskedProfile}
+use Rattle.std.proofs.lemmas.List.{take_all, Elements.All-push}
+use Rattle.filterset_overrides.specs.{Applying.sets, declared.asked.AskedProfile.AskedProfile}
 use Rattle.filterset_overrides.proofs.ListLemmas.{one_more, split_at}
 use Rattle.filterset_overrides.proofs.explaining.first_profile.Goals as goal
 

@@ -1,6 +1,5 @@
 use Rattle.std.proofs.Common.{◌≡◌, All, false, take}
-use Rattle.filterset_overrides.specs.Applying.{sets}
-use Rattle.filterset_overrides.specs.declared.asked.AskedProfile.{AskedProfile}
+use Rattle.filterset_overrides.specs.{Applying.sets, declared.asked.AskedProfile.AskedProfile}
 use Rattle.filterset_overrides.proofs.explaining.first_profile.Given as goal
 
 -- none of the profiles so far sets the key

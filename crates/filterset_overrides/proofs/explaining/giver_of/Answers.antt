@@ -1,7 +1,5 @@
-use Rattle.std.proofs.Common.{List, Some, false, subst, sym}
-use Rattle.std.proofs.lemmas.List.{take_all}
-use Rattle.filterset_overrides.specs.Applying.{DoesApply}
-use Rattle.filterset_overrides.specs.Giving.{Takes, asked_of}
+use Rattle.std.proofs.{Common.List, Common.Some, Common.false, Common.subst, Common.sym, lemmas.List.take_all}
+use Rattle.filterset_overrides.specs.{Applying.DoesApply, Giving.Takes, Giving.asked_of}
 use Rattle.filterset_overrides.specs.declared.applying.ExplainedOverride.{ExplainedOverride}
 use Rattle.filterset_overrides.proofs.GivingLemmas.{by_profile, first_is, passed}
 use Rattle.filterset_overrides.proofs.explaining.giver_of.Goals as goal

@@ -2,10 +2,8 @@ use Rattle.std.proofs.Common.{◌+◌, ◌++◌, List, map, string_bytes, subst,
 use Rattle.std.proofs.lemmas.List.{append-nil, take_all}
 use Rattle.filterset_overrides.specs.Applying.{Text}
 use Rattle.filterset_overrides.specs.Giving.{AreDistinctOf, override_settings, profile_settings}
-use Rattle.filterset_overrides.specs.declared.asked.AskedOverride.{AskedOverride}
-use Rattle.filterset_overrides.specs.declared.asked.AskedProfile.{AskedProfile}
-use Rattle.filterset_overrides.proofs.KeyLemmas.{none_distinct}
-use Rattle.filterset_overrides.proofs.ListLemmas.{behind, flat_more}
+use Rattle.filterset_overrides.specs.declared.asked.{AskedOverride.AskedOverride, AskedProfile.AskedProfile}
+use Rattle.filterset_overrides.proofs.{KeyLemmas.none_distinct, ListLemmas.behind, ListLemmas.flat_more}
 use Rattle.filterset_overrides.proofs.keys.keys_of.Goals as goal
 
 pub loop-asked-init : goal.loop-asked-init

@@ -1,11 +1,7 @@
 use Rattle.std.proofs.Common.{rules, tests, ◌+◌, ◌++◌, ◌∷◌, ◌∙◌, [], Bor, List, ℕ, ap, map, string_bytes, subst, sym, take}
-use Rattle.std.specs.List.{list_any}
-use Rattle.std.specs.Str.{bytes_eq}
-use Rattle.std.proofs.lemmas.Iterator.{YieldsList-from_slice}
-use Rattle.std.proofs.lemmas.Iterator.Search.{any_from_yields_List}
-use Rattle.std.proofs.lemmas.List.{take_all}
-use Rattle.filterset_overrides.specs.Applying.{Text}
-use Rattle.filterset_overrides.specs.Giving.{AreDistinctOf}
+use Rattle.std.specs.{List.list_any, Str.bytes_eq}
+use Rattle.std.proofs.lemmas.{Iterator.YieldsList-from_slice, Iterator.Search.any_from_yields_List, List.take_all}
+use Rattle.filterset_overrides.specs.{Applying.Text, Giving.AreDistinctOf}
 use Rattle.filterset_overrides.proofs.KeyLemmas.{key_kept, key_pushed}
 use Rattle.filterset_overrides.proofs.ListLemmas.{behind, map_append, map_more}
 use Rattle.filterset_overrides.proofs.keys.push_keys.Goals as goal

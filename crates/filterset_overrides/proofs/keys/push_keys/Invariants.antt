@@ -1,6 +1,5 @@
 use Rattle.std.proofs.Common.{◌++◌, List, map, string_bytes, take}
-use Rattle.filterset_overrides.specs.Applying.{Text}
-use Rattle.filterset_overrides.specs.Giving.{AreDistinctOf}
+use Rattle.filterset_overrides.specs.{Applying.Text, Giving.AreDistinctOf}
 use Rattle.filterset_overrides.proofs.keys.push_keys.Given as goal
 
 -- the keys so far were added

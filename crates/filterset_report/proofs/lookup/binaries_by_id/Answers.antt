@@ -1,11 +1,10 @@
 use Rattle.std.proofs.Common.{rules, ◌≡◌, true, false, is_some, refl, sym}
 use Rattle.std.proofs.lemmas.Map.Text.{btree_map_updates_str}
 use Rattle.filterset_report.specs.declared.record.binaries.BinaryEntry.{BinaryEntry}
-use Rattle.filterset_report.specs.declared.lookup.IndexedBinary.{IndexedBinary}
-use Rattle.filterset_report.specs.Index.{entry_at}
+use Rattle.filterset_report.specs.{declared.lookup.IndexedBinary.IndexedBinary, Index.entry_at}
 use Rattle.filterset_report.proofs.IndexLemmas.{index_added, index_kept}
-use Rattle.filterset_report.proofs.lookup.binaries_by_id.Goals as goal
 use Rattle.filterset_report.proofs.lookup.binaries_by_id.Goals.{then-not-contains_key+in_ok-by_name+in_ok-grouped+in_ok-insert+in-None-1, then-not-contains_key+in_ok-by_name+in_ok-grouped+in_ok-insert+in-Some-1, else-not-contains_key}
+use Rattle.filterset_report.proofs.lookup.binaries_by_id.Goals as goal
 
 pub loop-binary-preserved : goal.loop-binary-preserved
 loop-binary-preserved c =

@@ -1,5 +1,4 @@
-use Rattle.std.proofs.Common.{rules, ◌≡◌, Some}
-use Rattle.std.proofs.lemmas.List.Elements.{All-push}
+use Rattle.std.proofs.{Common.rules, Common.◌≡◌, Common.Some, lemmas.List.Elements.All-push}
 use Rattle.filterset_columns.specs.declared.groups.GroupedTest.{GroupedTest}
 use Rattle.filterset_report.specs.Index.{entry_at, group_with}
 use Rattle.filterset_report.proofs.lookup.group_tests.Goals as goal

@@ -1,11 +1,10 @@
 use Rattle.std.proofs.Common.{rules, ◌≡◌, true, false, is_some, refl, sym}
 use Rattle.std.proofs.lemmas.Map.Text.{btree_map_updates_str}
 use Rattle.std.specs.Borrow.{Bor}
-use Rattle.filterset_report.specs.declared.record.binaries.TestEntry.{TestEntry}
-use Rattle.filterset_report.specs.Index.{entry_at}
+use Rattle.filterset_report.specs.{declared.record.binaries.TestEntry.TestEntry, Index.entry_at}
 use Rattle.filterset_report.proofs.IndexLemmas.{index_added, index_kept}
-use Rattle.filterset_report.proofs.lookup.tests_by_name.Goals as goal
 use Rattle.filterset_report.proofs.lookup.tests_by_name.Goals.{then-not-contains_key+in_ok-insert, else-not-contains_key}
+use Rattle.filterset_report.proofs.lookup.tests_by_name.Goals as goal
 
 pub loop-test-preserved : goal.loop-test-preserved
 loop-test-preserved c =

@@ -4,11 +4,9 @@ use Rattle.filterset_language.specs.Views.{tree_of}
 use Rattle.filterset_faults.specs.declared.kind.FiltersetKind.TheVariants as kinds
 use Rattle.filterset_graph.specs.declared.package.PackageMetadata.{PackageMetadata}
 use Rattle.nextest_filtering.specs.Compiling.{IsFiltersetOf, packages_of}
-use Rattle.filterset_expression.specs.Contexts.{default_of}
-use Rattle.filterset_expression.specs.Meaning.{IsCompiled}
+use Rattle.filterset_expression.specs.{Contexts.default_of, Meaning.IsCompiled}
 use Rattle.filterset_expression.specs.declared.expression.CompiledExpr.{CompiledExpr}
-use Rattle.filterset_report.specs.Record.{RecordRow}
-use Rattle.filterset_report.specs.Rows.{binary_row, filterset_row}
+use Rattle.filterset_report.specs.{Record.RecordRow, Rows.binary_row, Rows.filterset_row}
 use Rattle.filterset_report.proofs.ReportLemmas.{reported}
 use Rattle.filterset_report.proofs.report.report_filtersets.Goals as goal
 

@@ -1,8 +1,7 @@
 use Rattle.std.proofs.lemmas.Result.{IfOk-weaker}
 use Rattle.serde_json.specs.View.{view}
 use Rattle.filterset_report.specs.Report.{no_record, of_record}
-use Rattle.filterset_report.specs.Record.{IsRecord, RecordRow}
-use Rattle.filterset_report.specs.Rows.{record_row}
+use Rattle.filterset_report.specs.{Record.IsRecord, Record.RecordRow, Rows.record_row}
 use Rattle.filterset_report.proofs.ReportLemmas.{no_entry}
 use Rattle.filterset_report.proofs.report.report_of.Goals as goal
 

@@ -2,9 +2,7 @@ use Rattle.std.proofs.Common.{List, inl, map, string_bytes, subst, sym}
 use Rattle.std.proofs.lemmas.Result.{IfOk-weaker}
 use Rattle.filterset_graph.specs.Packages.{AllDiffer, LinksKnown, ids}
 use Rattle.filterset_graph.specs.declared.package.PackageMetadata.{PackageMetadata}
-use Rattle.filterset_report.specs.Record.{RecordRow}
-use Rattle.filterset_report.specs.Report.{RecordReport}
-use Rattle.filterset_report.specs.Rows.{binary_row, filterset_row}
+use Rattle.filterset_report.specs.{Record.RecordRow, Report.RecordReport, Rows.binary_row, Rows.filterset_row}
 use Rattle.filterset_report.specs.declared.record.binaries.BinaryEntry.{BinaryEntry}
 use Rattle.filterset_report.proofs.report.report_record.Goals as goal
 

@@ -1,7 +1,6 @@
 use Rattle.std.proofs.Common.{◌≡◌, ◌∷◌, [], IsCharBoundary, ap, subst, sym, ◌∙◌}
 use Rattle.std.proofs.lemmas.Bool.{false≢true}
-use Rattle.filterset_faults.specs.Span.{offset_of}
-use Rattle.filterset_faults.specs.declared.error.ParseSingleError.TheVariants.{ExpectedEndOfExpression}
+use Rattle.filterset_faults.specs.{Span.offset_of, declared.error.ParseSingleError.TheVariants.ExpectedEndOfExpression}
 use Rattle.filterset_rewriting.proofs.FrontLemmas.{nothing_in_front}
 use Rattle.filterset_rewriting.proofs.fronts.read_expression.Goals as goal
 

@@ -1,7 +1,6 @@
 use Rattle.std.proofs.Common.{arith, ◌≡◌, ◌+◌, ◌<◌, Bool, true, false, drop, length, length-drop, subst, ⊎_elim}
 use Rattle.std.proofs.lemmas.Bool.{cases_lt}
-use Rattle.filterset_rewriting.specs.Nesting.Depth.{depth}
-use Rattle.filterset_rewriting.specs.Nesting.Levels.{Passes, Rest}
+use Rattle.filterset_rewriting.specs.Nesting.{Depth.depth, Levels.Passes, Levels.Rest}
 use Rattle.filterset_rewriting.specs.declared.nesting.Step.{Step}
 use Rattle.filterset_rewriting.proofs.Nested.{at_end, from_start, step}
 use Rattle.filterset_rewriting.proofs.nesting.find_too_deep.Goals as goal

@@ -1,7 +1,6 @@
 use Rattle.std.proofs.Common.{◌≤◌, ◌-◌, drop, length}
 use Rattle.filterset_faults.specs.declared.span.SourceSpan.{SourceSpan}
-use Rattle.filterset_grammar.specs.Grammar.{Spells}
-use Rattle.filterset_grammar.specs.Tree.{Tree}
+use Rattle.filterset_grammar.specs.{Grammar.Spells, Tree.Tree}
 use Rattle.filterset_rewriting.proofs.Nested.{FromHere}
 use Rattle.filterset_rewriting.proofs.nesting.find_too_deep.Given as goal
 

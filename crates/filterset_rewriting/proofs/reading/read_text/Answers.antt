@@ -1,16 +1,12 @@
 use Rattle.std.proofs.Common.{◌≡◌, ◌≢◌, ◌≤◌, [], Option, arith, Some, option_map, rules, subst}
-use Rattle.std.proofs.lemmas.Grind.{common_steps}
-use Rattle.std.proofs.lemmas.List.{nil_from_length}
+use Rattle.std.proofs.lemmas.{Grind.common_steps, List.nil_from_length}
 use Rattle.filterset_faults.specs.declared.span.SourceSpan.{SourceSpan}
-use Rattle.filterset_grammar.specs.Grammar.{Spells}
-use Rattle.filterset_grammar.specs.Tree.{Tree}
-use Rattle.filterset_language.specs.Parsed.{Reads}
-use Rattle.filterset_language.specs.Views.{tree_of}
-use Rattle.filterset_language.specs.declared.tree.ParsedExpr.{ParsedExpr}
+use Rattle.filterset_grammar.specs.{Grammar.Spells, Tree.Tree}
+use Rattle.filterset_language.specs.{Parsed.Reads, Views.tree_of, declared.tree.ParsedExpr.ParsedExpr}
 use Rattle.filterset_rewriting.specs.Nesting.Depth.{depth, most_levels}
 use Rattle.filterset_rewriting.proofs.FrontLemmas.{refused}
-use Rattle.filterset_rewriting.proofs.reading.read_text.Goals as goal
 use Rattle.filterset_rewriting.proofs.reading.read_text.Goals.{in_default-tree-via-in-Some-tree+else-is_empty, in_default-tree-via-in_default-tree}
+use Rattle.filterset_rewriting.proofs.reading.read_text.Goals as goal
 
 pub returns-in-Some-tree-clause-read : goal.returns-in-Some-tree-clause-read
 returns-in-Some-tree-clause-read c =

@@ -1,7 +1,6 @@
 use Rattle.std.proofs.Common.{◌∙◌, ap, subst, sym}
 use Rattle.filterset_expression.specs.Meaning.{tree_formula}
-use Rattle.filterset_grammar.specs.Printing.{WellFormed}
-use Rattle.filterset_grammar.specs.Tree.{Tree}
+use Rattle.filterset_grammar.specs.{Printing.WellFormed, Tree.Tree}
 use Rattle.filterset_language.specs.Views.{tree_of}
 use Rattle.filterset_rewriting.specs.Showing.{without_parens}
 use Rattle.filterset_rewriting.proofs.Shown.{shown_bare, shown_formed, shown_meaning}

@@ -1,7 +1,6 @@
 use Rattle.std.proofs.Common.{arith, ◌∙◌, ◌∷◌, ◌++◌, [], List, ap, subst, sym}
 use Rattle.filterset_rewriting.specs.Tokens.{Advances, token, word_kind}
-use Rattle.filterset_rewriting.specs.declared.tokens.Token.{Token}
-use Rattle.filterset_rewriting.specs.declared.tokens.TokenKind.{TokenKind}
+use Rattle.filterset_rewriting.specs.declared.tokens.{Token.Token, TokenKind.TokenKind}
 use Rattle.filterset_rewriting.proofs.TokenLemmas.{over_other, over_sign, over_word}
 use Rattle.filterset_rewriting.proofs.tokens.push_front.Goals as goal
 

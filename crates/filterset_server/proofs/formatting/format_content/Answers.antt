@@ -1,7 +1,5 @@
 use Rattle.std.proofs.Common.{arith, ◌≡◌, ◌∙◌, List, ap, length, map, subst}
-use Rattle.std.proofs.lemmas.List.{length-map}
-use Rattle.std.proofs.lemmas.Result.{IfOk-weaker}
-use Rattle.std.proofs.lemmas.Slice.Zip.{AllZip-long}
+use Rattle.std.proofs.lemmas.{List.length-map, Result.IfOk-weaker, Slice.Zip.AllZip-long}
 use Rattle.serde_json.specs.View.{view}
 use Rattle.filterset_entries.specs.Checked.{text_row}
 use Rattle.filterset_documents.specs.Contents.{content_row}

@@ -1,9 +1,7 @@
 use Rattle.std.proofs.Common.{arith, ◌<◌, ◌≤◌, ◌∙◌, ◌++◌, List, ap, length, map, sym}
 use Rattle.std.proofs.lemmas.List.{append-nil, drop_all}
-use Rattle.serde_json.specs.Data.{Data}
-use Rattle.serde_json.specs.View.{view}
-use Rattle.filterset_server.specs.Highlights.{marks_data}
-use Rattle.filterset_server.specs.declared.highlighting.Mark.{Mark}
+use Rattle.serde_json.specs.{Data.Data, View.view}
+use Rattle.filterset_server.specs.{Highlights.marks_data, declared.highlighting.Mark.Mark}
 use Rattle.filterset_server.proofs.MarkLemmas.{marks_more}
 use Rattle.filterset_server.proofs.highlighting.mark_values.Goals as goal
 

@@ -1,11 +1,9 @@
 use Rattle.std.proofs.Common.{rules, arith, ◌≡◌, ◌<◌, length, get_or}
-use Rattle.std.proofs.lemmas.List.{take_all}
-use Rattle.std.proofs.lemmas.List.Sorted.{IsNonDecreasingBy-from_sort_by_key}
+use Rattle.std.proofs.lemmas.List.{take_all, Sorted.IsNonDecreasingBy-from_sort_by_key}
 use Rattle.filterset_entries.specs.Checked.{text_row}
 use Rattle.filterset_documents.specs.Joins.{no_parts}
 use Rattle.filterset_documents.proofs.JoinLemmas.{Joins-rows}
-use Rattle.filterset_server.specs.Highlights.{RowMarks}
-use Rattle.filterset_server.specs.declared.highlighting.Mark.{Mark}
+use Rattle.filterset_server.specs.{Highlights.RowMarks, declared.highlighting.Mark.Mark}
 use Rattle.filterset_server.proofs.highlighting.ordered_marks.Goals as goal
 
 pub returns : goal.returns

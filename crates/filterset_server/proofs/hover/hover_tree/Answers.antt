@@ -4,8 +4,7 @@ use Rattle.serde_json.specs.declared.value.Value.{the_lemmas}
 use Rattle.filterset_entries.specs.Placements.{placement_of}
 use Rattle.filterset_faults.specs.declared.span.SourceSpan.{SourceSpan}
 use Rattle.filterset_grammar.specs.Tree.{Leaf, tree_leaves}
-use Rattle.filterset_language.specs.Views.{leaf_of, tree_of}
-use Rattle.filterset_language.specs.declared.tree.ParsedLeaf.{ParsedLeaf}
+use Rattle.filterset_language.specs.{Views.leaf_of, Views.tree_of, declared.tree.ParsedLeaf.ParsedLeaf}
 use Rattle.filterset_server.specs.Hover.{is_leaf_at}
 use Rattle.filterset_documents.proofs.FindLemmas.{find_first}
 use Rattle.filterset_server.proofs.hover.hover_tree.Goals as goal

@@ -1,5 +1,4 @@
-use Rattle.std.proofs.Common.{◌∙◌, ap, map}
-use Rattle.std.proofs.lemmas.List.{map-append}
+use Rattle.std.proofs.{Common.◌∙◌, Common.ap, Common.map, lemmas.List.map-append}
 use Rattle.serde_json.specs.View.{view}
 use Rattle.filterset_server.proofs.language.diagnose_content.Goals as goal
 

@@ -1,7 +1,6 @@
 use Rattle.std.proofs.Common.{rules, arith, ◌≡◌, ◌<◌, length, get_or, map}
 use Rattle.std.proofs.lemmas.List.{take_all}
-use Rattle.serde_json.specs.View.{view}
-use Rattle.serde_json.specs.declared.value.Value.{the_lemmas}
+use Rattle.serde_json.specs.{View.view, declared.value.Value.the_lemmas}
 use Rattle.filterset_entries.specs.Checked.{text_row}
 use Rattle.filterset_server.specs.Symbols.{IsSymbol}
 use Rattle.filterset_documents.proofs.JoinLemmas.{Zips-rows}

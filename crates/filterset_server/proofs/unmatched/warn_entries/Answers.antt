@@ -1,10 +1,8 @@
-use Rattle.std.proofs.Common.{map, subst}
-use Rattle.std.proofs.lemmas.Result.{IfOk-weaker}
+use Rattle.std.proofs.{Common.map, Common.subst, lemmas.Result.IfOk-weaker}
 use Rattle.serde_json.specs.View.{view}
 use Rattle.filterset_entries.specs.Checked.{text_row}
 use Rattle.filterset_documents.specs.Joins.{Joins}
-use Rattle.filterset_names.specs.Workspaces.{workspace_row}
-use Rattle.filterset_names.specs.declared.workspace.Workspace.{Workspace}
+use Rattle.filterset_names.specs.{Workspaces.workspace_row, declared.workspace.Workspace.Workspace}
 use Rattle.filterset_server.specs.Unmatched.{RowWarnings}
 use Rattle.filterset_server.proofs.unmatched.warn_entries.Goals as goal
 

@@ -7,8 +7,7 @@ use Rattle.filterset_documents.specs.Joins.{no_parts}
 use Rattle.filterset_documents.proofs.JoinLemmas.{Joins-more}
 use Rattle.filterset_faults.specs.declared.span.SourceSpan.{SourceSpan}
 use Rattle.filterset_grammar.specs.Tree.{Leaf}
-use Rattle.filterset_language.specs.Views.{leaf_of}
-use Rattle.filterset_language.specs.declared.tree.ParsedLeaf.{ParsedLeaf}
+use Rattle.filterset_language.specs.{Views.leaf_of, declared.tree.ParsedLeaf.ParsedLeaf}
 use Rattle.filterset_names.specs.Workspaces.{workspace_row}
 use Rattle.filterset_server.specs.Unmatched.{LeafWarnings}
 use Rattle.filterset_server.proofs.unmatched.warn_leaves.Goals as goal

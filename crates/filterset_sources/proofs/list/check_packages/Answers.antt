@@ -1,8 +1,7 @@
 use Rattle.std.proofs.Common.{◌≡◌, ap, arith}
 use Rattle.std.specs.Prelude.{codes}
 use Rattle.filterset_graph.specs.Packages.{ids}
-use Rattle.filterset_json.specs.Paths.{joined, key_text}
-use Rattle.filterset_json.specs.Places.{Place}
+use Rattle.filterset_json.specs.{Paths.joined, Paths.key_text, Places.Place}
 use Rattle.filterset_sources.specs.Suites.{IsOfPackage, WrongPackages}
 use Rattle.filterset_sources.proofs.GraphLemmas.{All-done, All-next, Contains-id, first_not, found_says, missing_says}
 use Rattle.filterset_sources.proofs.ShapeLemmas.{Refuses-if}

@@ -1,7 +1,6 @@
 use Rattle.serde_json.specs.View.{view}
 use Rattle.filterset_sources.specs.Suites.{WrongTestList}
-use Rattle.filterset_sources.proofs.ShapeLemmas.{entry_handed_on}
-use Rattle.filterset_sources.proofs.TestLemmas.{counted_list}
+use Rattle.filterset_sources.proofs.{ShapeLemmas.entry_handed_on, TestLemmas.counted_list}
 use Rattle.filterset_sources.proofs.list.read_test_list.Goals as goal
 
 pub returns-clause-read : goal.returns-clause-read

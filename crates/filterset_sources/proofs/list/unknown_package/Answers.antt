@@ -1,8 +1,6 @@
 use Rattle.std.proofs.Common.{◌≡◌, [], ap, ◌∙◌}
 use Rattle.std.specs.Prelude.{codes}
-use Rattle.filterset_json.specs.Paths.{joined, key_text}
-use Rattle.filterset_json.specs.Places.{After, Place}
-use Rattle.filterset_json.specs.Shape.{Text}
+use Rattle.filterset_json.specs.{Paths.joined, Paths.key_text, Places.After, Places.Place, Shape.Text}
 use Rattle.filterset_json.proofs.RefusalLemmas.{Names-whole}
 use Rattle.filterset_sources.proofs.ShapeLemmas.{Names-by, Refuses-source}
 use Rattle.filterset_sources.proofs.list.unknown_package.Goals as goal

@@ -2,9 +2,7 @@ use Rattle.std.proofs.Common.{rules, ◌≡◌, [], ◌∷◌, ◌++◌, ap, app
 use Rattle.std.proofs.lemmas.List.{map-append}
 use Rattle.serde_json.specs.View.{members_view, view}
 use Rattle.serde_json.proofs.Views.{Entry}
-use Rattle.filterset_json.specs.Paths.{key_text}
-use Rattle.filterset_json.specs.Places.{After}
-use Rattle.filterset_json.specs.declared.path.Step.TheVariants.{Key}
+use Rattle.filterset_json.specs.{Paths.key_text, Places.After, declared.path.Step.TheVariants.Key}
 use Rattle.filterset_json.proofs.RefusalLemmas.{Names-after, Refuses-after}
 use Rattle.filterset_sources.specs.Shape.{EachMember, WrongMembers}
 use Rattle.filterset_sources.proofs.ShapeLemmas.{EachMember-at, EachMember-push, WrongMembers-at}

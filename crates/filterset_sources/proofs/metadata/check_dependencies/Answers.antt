@@ -1,6 +1,5 @@
-use Rattle.std.proofs.Common.{◌≡◌, arith, map, sym, ◌∙◌}
+use Rattle.std.proofs.{Common.◌≡◌, Common.arith, Common.map, Common.sym, Common.◌∙◌, lemmas.List.Elements.All-map}
 use Rattle.std.specs.Prelude.{codes}
-use Rattle.std.proofs.lemmas.List.Elements.{All-map}
 use Rattle.filterset_json.specs.Places.{Place}
 use Rattle.filterset_sources.specs.Metadata.{IsKnown, Unknown, link_path}
 use Rattle.filterset_sources.specs.declared.metadata.parts.Dependency.{Dependency}

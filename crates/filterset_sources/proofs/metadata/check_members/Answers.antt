@@ -1,9 +1,7 @@
 use Rattle.std.proofs.Common.{◌≡◌, ◌++◌, [], append-nil, ap, arith, sym, ◌∙◌}
 use Rattle.std.specs.Prelude.{codes}
-use Rattle.filterset_json.specs.Places.{Place}
-use Rattle.filterset_json.specs.Shape.{Text}
-use Rattle.filterset_sources.specs.Metadata.{IsKnown, Unknown}
-use Rattle.filterset_sources.specs.Shape.{item_path}
+use Rattle.filterset_json.specs.{Places.Place, Shape.Text}
+use Rattle.filterset_sources.specs.{Metadata.IsKnown, Metadata.Unknown, Shape.item_path}
 use Rattle.filterset_sources.proofs.GraphLemmas.{All-done, All-next, first_not, not_known}
 use Rattle.filterset_sources.proofs.ShapeLemmas.{Refuses-if}
 use Rattle.filterset_sources.proofs.metadata.check_members.Goals as goal

@@ -1,10 +1,8 @@
 use Rattle.std.proofs.Common.{◌≡◌, ◌++◌, sym, ◌∙◌}
 use Rattle.std.specs.Prelude.{codes}
 use Rattle.filterset_json.specs.Places.{Place}
-use Rattle.filterset_sources.specs.Metadata.{Repeats}
-use Rattle.filterset_sources.specs.Shape.{item_path}
-use Rattle.filterset_sources.proofs.ShapeLemmas.{Refuses-if}
-use Rattle.filterset_sources.proofs.GraphLemmas.{repeated_at, placed_more}
+use Rattle.filterset_sources.specs.{Metadata.Repeats, Shape.item_path}
+use Rattle.filterset_sources.proofs.{ShapeLemmas.Refuses-if, GraphLemmas.repeated_at, GraphLemmas.placed_more}
 use Rattle.filterset_sources.proofs.metadata.positions_of.Goals as goal
 
 pub returns-then-is_some-clause-refused : goal.returns-then-is_some-clause-refused

@@ -1,7 +1,5 @@
-use Rattle.std.proofs.Common.{inl, inr, ◌⊎◌}
-use Rattle.std.proofs.lemmas.Result.{IfOk-weaker}
-use Rattle.serde_json.specs.Data.{Data}
-use Rattle.serde_json.specs.View.{view}
+use Rattle.std.proofs.{Common.inl, Common.inr, Common.◌⊎◌, lemmas.Result.IfOk-weaker}
+use Rattle.serde_json.specs.{Data.Data, View.view}
 use Rattle.filterset_graph.specs.Packages.{ids}
 use Rattle.filterset_json.specs.Places.{Place}
 use Rattle.filterset_sources.specs.Metadata.{IsParts, WrongParts, WrongWhole}

@@ -1,8 +1,6 @@
 use Rattle.std.proofs.Common.{◌-◌, [], map, string_bytes, length, take, drop, get_or, Bor}
 use Rattle.serde_json.specs.View.{view}
-use Rattle.filterset_json.specs.Places.{Place}
-use Rattle.filterset_json.specs.Shape.{Text}
-use Rattle.filterset_json.specs.declared.path.Step.TheVariants.{Key}
+use Rattle.filterset_json.specs.{Places.Place, Shape.Text, declared.path.Step.TheVariants.Key}
 use Rattle.filterset_json.proofs.RefusalLemmas.{Names-after}
 use Rattle.filterset_sources.specs.Platforms.{WrongAt}
 use Rattle.filterset_sources.proofs.PlatformLemmas.{wrong_behind}

@@ -1,8 +1,6 @@
 use Rattle.std.proofs.Common.{◌≡◌, ◌++◌, [], drop}
-use Rattle.std.specs.Prelude.{option_and_then}
-use Rattle.std.specs.Option.{option_map_or}
-use Rattle.toml.specs.Data.{as_array, get}
-use Rattle.toml.specs.View.{items_view, view}
+use Rattle.std.specs.{Prelude.option_and_then, Option.option_map_or}
+use Rattle.toml.specs.{Data.as_array, Data.get, View.items_view, View.view}
 use Rattle.filterset_sources.specs.Sections.{item_sections, section_rows}
 use Rattle.filterset_sources.proofs.sections.push_list.Given as goal
 

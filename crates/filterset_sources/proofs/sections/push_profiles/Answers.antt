@@ -1,10 +1,8 @@
 use Rattle.std.proofs.Common.{rules, arith, ◌≡◌, Option, Some, ◌+◌, ◌++◌, ◌∷◌, append-nil, append_assoc, List, ap, length, string_bytes, sym, ◌∙◌}
 use Rattle.std.specs.Prelude.{codes, option_and_then, unwrap_or}
-use Rattle.toml.specs.Data.{Members, as_table, get, no_members}
-use Rattle.toml.specs.View.{members_view, view}
+use Rattle.toml.specs.{Data.Members, Data.as_table, Data.get, Data.no_members, View.members_view, View.view}
 use Rattle.toml.proofs.Views.{Entry}
-use Rattle.filterset_json.specs.Paths.{key_text}
-use Rattle.filterset_json.specs.Shape.{Text}
+use Rattle.filterset_json.specs.{Paths.key_text, Shape.Text}
 use Rattle.filterset_sources.specs.Sections.{SectionRow, below, member_sections, profile_sections, section_rows}
 use Rattle.filterset_sources.proofs.sections.push_profiles.Goals as goal
 

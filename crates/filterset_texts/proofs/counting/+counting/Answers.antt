@@ -1,8 +1,7 @@
 use Rattle.std.proofs.Common.{arith, ◌≡◌, ◌+◌, ◌-◌, ◌^◌, ◌∷◌, [], ap, drop, max}
 use Rattle.std.proofs.lemmas.List.{drop_all}
 use Rattle.filterset_glob.specs.Tokens.{branches_of, token_of, tokens_of}
-use Rattle.filterset_glob.proofs.Bridges.{token_of_group}
-use Rattle.filterset_glob.proofs.Items.{drop_item}
+use Rattle.filterset_glob.proofs.{Bridges.token_of_group, Items.drop_item}
 use Rattle.filterset_texts.specs.Expanding.{branches_sequence_count, sequence_count, token_sequence_count}
 use Rattle.filterset_texts.proofs.Capped.{capped_more}
 use Rattle.filterset_texts.proofs.counting.+counting.Goals as goal

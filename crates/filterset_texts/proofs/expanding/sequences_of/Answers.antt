@@ -1,5 +1,4 @@
-use Rattle.std.proofs.Common.{string_bytes}
-use Rattle.std.proofs.lemmas.Str.{IsUtf8-string_bytes}
+use Rattle.std.proofs.{Common.string_bytes, lemmas.Str.IsUtf8-string_bytes}
 use Rattle.filterset_texts.proofs.Expansions.{contains_made, equal_made, glob_made}
 use Rattle.filterset_texts.proofs.expanding.sequences_of.Goals.{in-Equal+in_ok-sequences-in-Equal, in-Contains+in_ok-sequences-in-Contains, in-Glob+in_ok-sequences-in-Glob}
 use Rattle.filterset_texts.proofs.expanding.sequences_of.Goals as goal

@@ -1,8 +1,6 @@
-use Rattle.std.proofs.Common.{rules, ◌≡◌, get_or}
-use Rattle.std.proofs.lemmas.List.{take_all}
+use Rattle.std.proofs.{Common.rules, Common.◌≡◌, Common.get_or, lemmas.List.take_all}
 use Rattle.filterset_texts.specs.Parts.{Fits}
-use Rattle.filterset_texts.proofs.Cuts.{in_turn_nothing}
-use Rattle.filterset_texts.proofs.Sequences.{fits_pushed}
+use Rattle.filterset_texts.proofs.{Cuts.in_turn_nothing, Sequences.fits_pushed}
 use Rattle.filterset_texts.proofs.joining.append_copies.Goals as goal
 
 pub loop-part-init : goal.loop-part-init

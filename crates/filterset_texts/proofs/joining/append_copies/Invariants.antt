@@ -1,6 +1,5 @@
 use Rattle.std.proofs.Common.{take}
-use Rattle.filterset_texts.specs.Cuts.{HoldInTurn, HoldTogether}
-use Rattle.filterset_texts.specs.Parts.{Fits}
+use Rattle.filterset_texts.specs.{Cuts.HoldInTurn, Cuts.HoldTogether, Parts.Fits}
 use Rattle.filterset_texts.proofs.joining.append_copies.Given as goal
 
 -- the parts so far are appended

@@ -1,7 +1,5 @@
-use Rattle.std.proofs.Common.{rules, arith, ◌∙◌, sym}
-use Rattle.std.proofs.lemmas.Iterator.Adapters.{YieldsList-from_vec}
-use Rattle.std.proofs.lemmas.Iterator.Consumers.{YieldsList-end}
-use Rattle.std.proofs.lemmas.List.{length_push, map-id}
+use Rattle.std.proofs.{Common.rules, Common.arith, Common.◌∙◌, Common.sym, lemmas.Iterator.Adapters.YieldsList-from_vec}
+use Rattle.std.proofs.lemmas.{Iterator.Consumers.YieldsList-end, List.length_push, List.map-id}
 use Rattle.filterset_texts.specs.Parts.{FitsSome}
 use Rattle.filterset_texts.proofs.Sequences.{in_turn_more, in_turn_none}
 use Rattle.filterset_texts.proofs.joining.join_each.Goals as goal

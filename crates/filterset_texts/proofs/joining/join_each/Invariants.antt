@@ -1,6 +1,5 @@
 use Rattle.std.proofs.Common.{◌≡◌, ◌*◌, length}
-use Rattle.filterset_texts.specs.Cuts.{HoldInTurn, HoldTogether}
-use Rattle.filterset_texts.specs.Parts.{FitsSome}
+use Rattle.filterset_texts.specs.{Cuts.HoldInTurn, Cuts.HoldTogether, Parts.FitsSome}
 use Rattle.filterset_texts.proofs.joining.join_each.Given as goal
 
 -- the fronts so far are joined with each of the backs

@@ -1,6 +1,5 @@
 use Rattle.std.proofs.Common.{◌≡◌, ◌+◌, length, take}
-use Rattle.filterset_texts.specs.Cuts.{HoldTogether}
-use Rattle.filterset_texts.specs.Parts.{Fits, FitsSome}
+use Rattle.filterset_texts.specs.{Cuts.HoldTogether, Parts.Fits, Parts.FitsSome}
 use Rattle.filterset_texts.proofs.Sequences.{FitsOrBegins}
 use Rattle.filterset_texts.proofs.joining.push_joined.Given as goal
 

@@ -1,9 +1,7 @@
 use Rattle.std.proofs.Common.{◌≡◌, refl, sym, ◌∙◌, subst, List, [], ◌∷◌}
 use Rattle.std.specs.List.{All, Any}
-use Rattle.std.proofs.lemmas.List.Elements.{All-push}
-use Rattle.std.proofs.lemmas.List.Quantifiers.{Any-push}
-use Rattle.filterset_texts.specs.declared.letters.Letter.{Letter}
-use Rattle.filterset_texts.specs.Letters.{HasLetterLike}
+use Rattle.std.proofs.lemmas.List.{Elements.All-push, Quantifiers.Any-push}
+use Rattle.filterset_texts.specs.{declared.letters.Letter.Letter, Letters.HasLetterLike}
 use Rattle.filterset_texts.specs.Places.{IsAdmittedAt, row_of}
 use Rattle.filterset_texts.proofs.Lists.{any_left, any_weaker}
 use Rattle.filterset_texts.proofs.letters.add_letter.Goals as goal

@@ -1,16 +1,10 @@
 use Rattle.std.proofs.Common.{◌≡◌, ℕ, ◌+◌, sym, ap, subst, List, get_or, take}
-use Rattle.std.specs.declared.vec.Vec.{Vec}
-use Rattle.std.specs.declared.alloc.Global.{Global}
-use Rattle.std.proofs.lemmas.Bool.{false≢true}
-use Rattle.filterset_texts.specs.declared.letters.Letter.{Letter}
-use Rattle.std.specs.List.{All}
-use Rattle.std.specs.Char.{InScalarRange}
-use Rattle.std.proofs.lemmas.List.Elements.{All-more, All-weaker}
-use Rattle.std.proofs.lemmas.List.{take_all}
-use Rattle.filterset_texts.specs.Letters.{HasLetterLike, KeepsLetters}
+use Rattle.std.proofs.lemmas.{Bool.false≢true, List.take_all, List.Elements.All-more, List.Elements.All-weaker}
+use Rattle.std.specs.{Char.InScalarRange, List.All, declared.alloc.Global.Global, declared.vec.Vec.Vec}
+use Rattle.filterset_texts.specs.{declared.letters.Letter.Letter, Letters.HasLetterLike, Letters.KeepsLetters}
 use Rattle.filterset_texts.specs.Places.{row_of}
-use Rattle.filterset_texts.proofs.letters.add_letters.Goals as goal
 use Rattle.filterset_texts.proofs.letters.add_letters.Goals.{in-Some+in_ok-add_letter, in_default}
+use Rattle.filterset_texts.proofs.letters.add_letters.Goals as goal
 
 pub loop-number-preserved : goal.loop-number-preserved
 loop-number-preserved c =

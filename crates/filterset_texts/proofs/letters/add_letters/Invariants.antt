@@ -1,8 +1,6 @@
 use Rattle.std.proofs.Common.{take}
-use Rattle.std.specs.List.{All}
-use Rattle.std.specs.Char.{InScalarRange}
-use Rattle.filterset_texts.specs.Letters.{HasLetterLike, KeepsLetters}
-use Rattle.filterset_texts.specs.Places.{row_of}
+use Rattle.std.specs.{List.All, Char.InScalarRange}
+use Rattle.filterset_texts.specs.{Letters.HasLetterLike, Letters.KeepsLetters, Places.row_of}
 use Rattle.filterset_texts.proofs.letters.add_letters.Given as goal
 
 abbrev pub invariant-loop-number : goal.invariant-loop-number

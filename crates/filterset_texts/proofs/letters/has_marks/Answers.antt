@@ -1,5 +1,4 @@
-use Rattle.std.proofs.Common.{◌≡◌, refl, sym, ◌∙◌}
-use Rattle.std.proofs.lemmas.Bool.{false≢true}
+use Rattle.std.proofs.{Common.◌≡◌, Common.refl, Common.sym, Common.◌∙◌, lemmas.Bool.false≢true}
 use Rattle.filterset_texts.specs.declared.letters.Letter.{Letter}
 use Rattle.filterset_texts.proofs.Lists.{any_at, none_of}
 use Rattle.filterset_texts.proofs.letters.has_marks.Goals as goal

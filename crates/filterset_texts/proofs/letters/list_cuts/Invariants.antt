@@ -1,6 +1,5 @@
 use Rattle.std.proofs.Common.{◌≡◌, take}
-use Rattle.filterset_texts.specs.Letters.{cuts_of}
-use Rattle.filterset_texts.specs.Places.{row_of}
+use Rattle.filterset_texts.specs.{Letters.cuts_of, Places.row_of}
 use Rattle.filterset_texts.proofs.letters.list_cuts.Given as goal
 
 abbrev pub invariant-loop-place : goal.invariant-loop-place

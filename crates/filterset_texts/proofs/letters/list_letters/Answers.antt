@@ -1,9 +1,6 @@
-use Rattle.std.proofs.Common.{◌≡◌, subst, ◌∙◌}
-use Rattle.filterset_texts.specs.declared.letters.Letter.{Letter}
-use Rattle.std.specs.List.{All}
-use Rattle.std.specs.Char.{InScalarRange}
-use Rattle.std.proofs.lemmas.List.Elements.{All-nil}
-use Rattle.filterset_texts.specs.Letters.{HasLetterLike, cuts_of}
+use Rattle.std.proofs.{Common.◌≡◌, Common.subst, Common.◌∙◌, lemmas.List.Elements.All-nil}
+use Rattle.std.specs.{Char.InScalarRange, List.All}
+use Rattle.filterset_texts.specs.{declared.letters.Letter.Letter, Letters.HasLetterLike, Letters.cuts_of}
 use Rattle.filterset_texts.specs.Places.{IsAdmittedAt, row_of}
 use Rattle.filterset_texts.proofs.Alike.{all_from_cuts}
 use Rattle.filterset_texts.proofs.letters.list_letters.Goals as goal

@@ -1,6 +1,5 @@
-use Rattle.filterset_texts.specs.Letters.{KeepsLetters}
+use Rattle.filterset_texts.specs.{Letters.KeepsLetters, Places.row_of}
 use Rattle.std.proofs.Common.{[]}
-use Rattle.filterset_texts.specs.Places.{row_of}
 use Rattle.filterset_texts.proofs.letters.list_letters.Given as goal
 
 abbrev pub invariant-loop-byte : goal.invariant-loop-byte

@@ -1,13 +1,8 @@
 use Rattle.std.proofs.Common.{◌↔◌, ◌+◌, List, ap, subst, sym, ◌∙◌, length, take, drop, arith, refl, IsTrue, ◌++◌}
-use Rattle.std.proofs.lemmas.Bool.{false≢true}
-use Rattle.std.proofs.lemmas.List.{take_rest, take_all, length-drop}
+use Rattle.std.proofs.lemmas.{Bool.false≢true, List.take_rest, List.take_all, List.length-drop}
 use Rattle.std.proofs.lemmas.List.Elements.{All-more, All-from_recursion, recursion_from_All}
-use Rattle.std.specs.List.{All}
-use Rattle.std.specs.Prelude.{◌-◌}
-use Rattle.std.specs.declared.vec.Vec.{Vec}
-use Rattle.std.specs.declared.alloc.Global.{Global}
-use Rattle.filterset_texts.specs.declared.part.Part.{Part}
-use Rattle.filterset_texts.specs.Parts.{FitsSome, IsMetBy, place_count}
+use Rattle.std.specs.{List.All, Prelude.◌-◌, declared.vec.Vec.Vec, declared.alloc.Global.Global}
+use Rattle.filterset_texts.specs.{declared.part.Part.Part, Parts.FitsSome, Parts.IsMetBy, Parts.place_count}
 use Rattle.filterset_texts.specs.Places.{LeadsTo, places_of, places_of_sequences}
 use Rattle.filterset_texts.proofs.Ends.{all_place_count_more, leads_from, met_if, unmet_if}
 use Rattle.filterset_texts.proofs.meeting.are_met.Goals as goal

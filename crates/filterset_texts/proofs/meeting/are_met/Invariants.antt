@@ -1,7 +1,6 @@
 use Rattle.std.proofs.Common.{◌≡◌, ◌≤◌, ℕ, List, length, take}
 use Rattle.std.specs.List.{All}
-use Rattle.filterset_texts.specs.Parts.{IsMetBy, all_place_count}
-use Rattle.filterset_texts.specs.Places.{LeadsTo, places_of}
+use Rattle.filterset_texts.specs.{Parts.IsMetBy, Parts.all_place_count, Places.LeadsTo, Places.places_of}
 use Rattle.filterset_texts.proofs.meeting.are_met.Given as goal
 
 abbrev pub invariant-loop-condition : goal.invariant-loop-condition

@@ -1,12 +1,8 @@
 use Rattle.std.proofs.Common.{◌≡◌, ◌+◌, ap, subst, sym, ◌∙◌, length, take, arith, refl}
-use Rattle.std.proofs.lemmas.Bool.{false≢true}
-use Rattle.std.proofs.lemmas.List.Elements.{All-more}
-use Rattle.std.specs.declared.vec.Vec.{Vec}
-use Rattle.std.specs.declared.alloc.Global.{Global}
-use Rattle.filterset_texts.specs.declared.part.Part.{Part}
-use Rattle.filterset_texts.specs.Parts.{Fits, place_count}
-use Rattle.filterset_texts.proofs.Ends.{place_count_more, end_marked}
-use Rattle.filterset_texts.proofs.Lists.{any_at}
+use Rattle.std.proofs.lemmas.{Bool.false≢true, List.Elements.All-more}
+use Rattle.std.specs.declared.{vec.Vec.Vec, alloc.Global.Global}
+use Rattle.filterset_texts.specs.{declared.part.Part.Part, Parts.Fits, Parts.place_count}
+use Rattle.filterset_texts.proofs.{Ends.place_count_more, Ends.end_marked, Lists.any_at}
 use Rattle.filterset_texts.proofs.meeting.is_end_marked.Goals as goal
 
 pub overflow_add-last : goal.overflow_add-last

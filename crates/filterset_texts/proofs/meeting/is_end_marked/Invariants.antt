@@ -1,7 +1,6 @@
 use Rattle.std.proofs.Common.{◌≡◌, ℕ, List, Option, ◌++◌, take}
 use Rattle.std.specs.List.{All}
-use Rattle.filterset_texts.specs.declared.part.Part.{Part}
-use Rattle.filterset_texts.specs.Parts.{Fits, place_count}
+use Rattle.filterset_texts.specs.{declared.part.Part.Part, Parts.Fits, Parts.place_count}
 use Rattle.filterset_texts.specs.Places.{LeadsTo, places_of_sequences}
 use Rattle.filterset_texts.proofs.meeting.is_end_marked.Given as goal
 

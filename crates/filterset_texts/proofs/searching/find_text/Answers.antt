@@ -1,22 +1,16 @@
 use Rattle.std.proofs.Common.{◌≡◌, ℕ, ◌^◌, ◌<◌, ◌≤◌, ◌≢◌, refl, string_bytes, sym, ◌∙◌, ap, subst, List, length, get_or, take, arith, Option}
-use Rattle.std.specs.Borrow.{Bor}
-use Rattle.std.specs.List.{All, Any}
-use Rattle.std.specs.Str.{chars}
+use Rattle.std.specs.{Borrow.Bor, List.All, List.Any, Str.chars}
+use Rattle.std.proofs.lemmas.{Bool.false≢true, List.get_or_default, List.take_all}
 use Rattle.filterset_texts.specs.declared.searching.Found.TheVariants.{Nothing, Stopped}
-use Rattle.std.proofs.lemmas.Bool.{false≢true}
-use Rattle.std.proofs.lemmas.List.{get_or_default, take_all}
-use Rattle.filterset_texts.specs.declared.letters.Letter.{Letter}
-use Rattle.filterset_texts.specs.declared.part.Part.{Part}
-use Rattle.filterset_texts.specs.declared.states.State.{State}
-use Rattle.filterset_texts.specs.Letters.{AreLetters}
-use Rattle.filterset_texts.specs.Parts.{Meets, all_place_count}
+use Rattle.filterset_texts.specs.declared.{letters.Letter.Letter, part.Part.Part, states.State.State}
+use Rattle.filterset_texts.specs.{Letters.AreLetters, Parts.Meets, Parts.all_place_count}
 use Rattle.filterset_texts.specs.Places.{BeginsAnew, LeadsTo, places_of, row_of}
 use Rattle.filterset_texts.specs.Searching.{AreStates, ExceedsLimit, HasNext, IsRight}
 use Rattle.filterset_texts.proofs.Ends.{begins_places, length-places_of}
 use Rattle.filterset_texts.proofs.Exhaustion.{IsExplored, IsSearched, all_reached, explored_more, none_meets}
 use Rattle.filterset_texts.proofs.Sets.{all_sets, apart_states, few_states}
-use Rattle.filterset_texts.proofs.searching.find_text.Goals as goal
 use Rattle.filterset_texts.proofs.searching.find_text.Goals.{then-len-limit, else-len-limit}
+use Rattle.filterset_texts.proofs.searching.find_text.Goals as goal
 
 pub returns-then-index-len-clause-found : goal.returns-then-index-len-clause-found
 returns-then-index-len-clause-found c =

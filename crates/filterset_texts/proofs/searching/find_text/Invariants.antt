@@ -1,5 +1,4 @@
-use Rattle.filterset_texts.specs.Places.{row_of}
-use Rattle.filterset_texts.specs.Searching.{AreSeen}
+use Rattle.filterset_texts.specs.{Places.row_of, Searching.AreSeen}
 use Rattle.filterset_texts.proofs.Exhaustion.{IsSearched}
 use Rattle.filterset_texts.proofs.searching.find_text.Given as goal
 

@@ -1,15 +1,11 @@
 use Rattle.std.proofs.Common.{◌≡◌, sym, ◌∙◌, ap, subst, List, Option, [], ◌∷◌, ◌++◌, get_or}
-use Rattle.std.specs.Prelude.{IfNone, IfSome}
-use Rattle.std.specs.List.{All}
-use Rattle.std.proofs.lemmas.List.{append-nil, take_all}
-use Rattle.std.proofs.lemmas.List.Quantifiers.{Any-push}
-use Rattle.filterset_texts.specs.declared.states.State.{State}
-use Rattle.filterset_texts.specs.declared.states.States.{States}
-use Rattle.filterset_texts.specs.Places.{row_of}
+use Rattle.std.specs.{Prelude.IfNone, Prelude.IfSome, List.All}
+use Rattle.std.proofs.lemmas.List.{append-nil, take_all, Quantifiers.Any-push}
+use Rattle.filterset_texts.specs.{declared.states.State.State, declared.states.States.States, Places.row_of}
 use Rattle.filterset_texts.specs.Searching.{AreSeen, AreStates, HasNext, LeadsOn}
 use Rattle.filterset_texts.proofs.Growth.{following_more}
-use Rattle.filterset_texts.proofs.states.add_following.Goals as goal
 use Rattle.filterset_texts.proofs.states.add_following.Goals.{in-Some+in_ok-add_state, in_default}
+use Rattle.filterset_texts.proofs.states.add_following.Goals as goal
 
 pub loop-letter-preserved : goal.loop-letter-preserved
 loop-letter-preserved c =

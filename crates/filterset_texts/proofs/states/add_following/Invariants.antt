@@ -1,5 +1,4 @@
-use Rattle.filterset_texts.specs.Places.{row_of}
-use Rattle.filterset_texts.specs.Searching.{AreSeen}
+use Rattle.filterset_texts.specs.{Places.row_of, Searching.AreSeen}
 use Rattle.filterset_texts.proofs.Growth.{AddsFollowing}
 use Rattle.filterset_texts.proofs.states.add_following.Given as goal
 

@@ -1,6 +1,5 @@
 use Rattle.std.proofs.Common.{rules, ◌≡◌, sym, subst, ◌∙◌, List}
-use Rattle.filterset_texts.specs.declared.states.State.{State}
-use Rattle.filterset_texts.specs.Searching.{AreSeen}
+use Rattle.filterset_texts.specs.{declared.states.State.State, Searching.AreSeen}
 use Rattle.filterset_texts.proofs.Remembering.{seen_more}
 use Rattle.filterset_texts.proofs.states.add_state.Goals as goal
 

@@ -1,13 +1,9 @@
 use Rattle.std.proofs.Common.{◌≡◌, ℕ, sym, ◌∙◌, subst, List, [], ◌∷◌, ◌++◌, get_or, string_bytes}
 use Rattle.std.specs.Str.{chars}
-use Rattle.std.proofs.lemmas.Bool.{false≢true}
-use Rattle.std.proofs.lemmas.List.{get_or_default}
-use Rattle.filterset_texts.specs.declared.states.State.{State}
-use Rattle.filterset_texts.specs.Places.{IsAdmittedAt, LeadsTo, row_of}
+use Rattle.std.proofs.lemmas.{Bool.false≢true, List.get_or_default}
+use Rattle.filterset_texts.specs.{declared.states.State.State, Places.IsAdmittedAt, Places.LeadsTo, Places.row_of}
 use Rattle.filterset_texts.specs.Searching.{HasNext, LeadsOn}
-use Rattle.filterset_texts.proofs.Growth.{more_states}
-use Rattle.filterset_texts.proofs.Lists.{any_weaker}
-use Rattle.filterset_texts.proofs.Remembering.{is_seen, was_seen}
+use Rattle.filterset_texts.proofs.{Growth.more_states, Lists.any_weaker, Remembering.is_seen, Remembering.was_seen}
 use Rattle.filterset_texts.proofs.states.find_next.Goals as goal
 
 pub returns-clause-states : goal.returns-clause-states

@@ -1,7 +1,5 @@
 use Rattle.std.proofs.Common.{◌≡◌, sym, ◌∙◌, ap, subst, List, [], ◌∷◌, ◌++◌}
-use Rattle.filterset_texts.specs.declared.states.State.{State}
-use Rattle.filterset_texts.specs.Places.{row_of}
-use Rattle.filterset_texts.specs.Searching.{AreStates}
+use Rattle.filterset_texts.specs.{declared.states.State.State, Places.row_of, Searching.AreStates}
 use Rattle.filterset_texts.proofs.Growth.{first_state}
 use Rattle.filterset_texts.proofs.states.list_start.Goals as goal
 

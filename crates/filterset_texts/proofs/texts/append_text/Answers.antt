@@ -1,11 +1,8 @@
 use Rattle.std.proofs.Common.{◌≡◌, ◌∙◌, sym}
 use Rattle.std.specs.Str.{chars}
-use Rattle.std.proofs.lemmas.Iterator.{YieldsList-from_chars}
-use Rattle.std.proofs.lemmas.Iterator.Consumers.{YieldsList-end}
-use Rattle.std.proofs.lemmas.List.{map-id}
+use Rattle.std.proofs.lemmas.{Iterator.YieldsList-from_chars, Iterator.Consumers.YieldsList-end, List.map-id}
 use Rattle.filterset_texts.specs.Parts.{Fits}
-use Rattle.filterset_texts.proofs.Cuts.{in_turn_nothing}
-use Rattle.filterset_texts.proofs.Spelling.{spelled_more}
+use Rattle.filterset_texts.proofs.{Cuts.in_turn_nothing, Spelling.spelled_more}
 use Rattle.filterset_texts.proofs.texts.append_text.Goals as goal
 
 pub loop-c-init : goal.loop-c-init

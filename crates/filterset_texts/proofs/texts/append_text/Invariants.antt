@@ -1,5 +1,4 @@
-use Rattle.filterset_texts.specs.Cuts.{HoldInTurn, HoldTogether}
-use Rattle.filterset_texts.specs.Parts.{Fits}
+use Rattle.filterset_texts.specs.{Cuts.HoldInTurn, Cuts.HoldTogether, Parts.Fits}
 use Rattle.filterset_texts.proofs.Spelling.{IsText}
 use Rattle.filterset_texts.proofs.texts.append_text.Given as goal
 

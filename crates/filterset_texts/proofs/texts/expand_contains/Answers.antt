@@ -1,11 +1,8 @@
 use Rattle.std.proofs.Common.{[], ◌∷◌, ◌++◌}
-use Rattle.std.specs.Str.Iter.{HasSubslice}
+use Rattle.std.specs.Str.{Iter.HasSubslice, chars}
 use Rattle.filterset_texts.specs.declared.part.Part.TheVariants as part
-use Rattle.std.specs.Str.{chars}
 use Rattle.filterset_texts.specs.Parts.{Fits, FitsSome}
-use Rattle.filterset_texts.proofs.Cuts.{together_then}
-use Rattle.filterset_texts.proofs.Sequences.{some_of_one}
-use Rattle.filterset_texts.proofs.Spelling.{spelled_within}
+use Rattle.filterset_texts.proofs.{Cuts.together_then, Sequences.some_of_one, Spelling.spelled_within}
 use Rattle.filterset_texts.proofs.texts.expand_contains.Goals as goal
 
 pub returns-clause-matched : goal.returns-clause-matched

@@ -1,9 +1,7 @@
 use Rattle.std.proofs.Common.{[], ◌∷◌, refl}
 use Rattle.std.specs.Str.{chars}
 use Rattle.filterset_texts.specs.Parts.{Fits, FitsSome}
-use Rattle.filterset_texts.proofs.Cuts.{together_then}
-use Rattle.filterset_texts.proofs.Sequences.{some_of_one}
-use Rattle.filterset_texts.proofs.Spelling.{IsText, spelled_alone}
+use Rattle.filterset_texts.proofs.{Cuts.together_then, Sequences.some_of_one, Spelling.IsText, Spelling.spelled_alone}
 use Rattle.filterset_texts.proofs.texts.expand_equal.Goals as goal
 
 pub returns-clause-matched : goal.returns-clause-matched

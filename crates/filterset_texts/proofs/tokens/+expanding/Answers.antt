@@ -1,18 +1,13 @@
 use Rattle.std.proofs.Common.{arith, ◌≡◌, ◌+◌, ◌≤◌, ◌∷◌, [], IfOk, drop, length, subst, sym}
-use Rattle.std.specs.declared.vec.Vec.{Vec}
-use Rattle.std.specs.declared.alloc.Global.{Global}
-use Rattle.filterset_texts.specs.declared.part.Part.{Part}
-use Rattle.std.proofs.lemmas.List.{drop_all, length-append}
-use Rattle.std.proofs.lemmas.Result.{IfOk-weaker}
-use Rattle.std.proofs.Math.Nat.{le-max_left}
-use Rattle.filterset_glob.specs.Matching.{Matches, MatchesSome, MatchesToken}
-use Rattle.filterset_glob.specs.Tokens.{Token, branches_of, token_of, tokens_of}
-use Rattle.filterset_glob.proofs.Bridges.{token_of_group}
-use Rattle.filterset_glob.proofs.Items.{drop_item}
-use Rattle.filterset_texts.specs.Cuts.{HoldTogether}
+use Rattle.std.specs.declared.{vec.Vec.Vec, alloc.Global.Global}
+use Rattle.std.proofs.{lemmas.List.drop_all, lemmas.List.length-append, lemmas.Result.IfOk-weaker, Math.Nat.le-max_left}
+use Rattle.filterset_texts.specs.{declared.part.Part.Part, Cuts.HoldTogether}
 use Rattle.filterset_texts.specs.Expanding.{branches_sequence_count, sequence_count, token_sequence_count}
 use Rattle.filterset_texts.specs.Parts.{FitsSome}
 use Rattle.filterset_texts.proofs.Rows.{count_more, group_more, row_begun, row_done, row_more}
+use Rattle.filterset_glob.specs.Matching.{Matches, MatchesSome, MatchesToken}
+use Rattle.filterset_glob.specs.Tokens.{Token, branches_of, token_of, tokens_of}
+use Rattle.filterset_glob.proofs.{Bridges.token_of_group, Items.drop_item}
 use Rattle.filterset_texts.proofs.tokens.+expanding.Goals as goal
 
 pub expand_branches-loop-branch-preserved : goal.expand_branches-loop-branch-preserved

@@ -1,9 +1,7 @@
 use Rattle.std.proofs.Common.{◌+◌, ◌*◌, ◌≤◌, ◌⊎◌, drop, length}
-use Rattle.filterset_glob.specs.Matching.{Matches, MatchesSome}
-use Rattle.filterset_glob.specs.Tokens.{branches_of, tokens_of}
+use Rattle.filterset_glob.specs.{Matching.Matches, Matching.MatchesSome, Tokens.branches_of, Tokens.tokens_of}
 use Rattle.filterset_texts.specs.Cuts.{HoldInTurn, HoldTogether}
-use Rattle.filterset_texts.specs.Expanding.{branches_sequence_count, sequence_count}
-use Rattle.filterset_texts.specs.Parts.{FitsSome}
+use Rattle.filterset_texts.specs.{Expanding.branches_sequence_count, Expanding.sequence_count, Parts.FitsSome}
 use Rattle.filterset_texts.proofs.tokens.+expanding.Given as goal
 
 -- the sequences so far, and the tokens that are left

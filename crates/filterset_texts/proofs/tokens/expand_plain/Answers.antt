@@ -1,11 +1,9 @@
 use Rattle.std.proofs.Common.{rules, ◌≡◌, inl, inr, true, [], ◌∷◌}
-use Rattle.filterset_glob.specs.Matching.{MatchesToken}
-use Rattle.filterset_glob.specs.Tokens.{any_char, class, literal, star}
+use Rattle.filterset_glob.specs.{Matching.MatchesToken, Tokens.any_char, Tokens.class, Tokens.literal, Tokens.star}
 use Rattle.filterset_texts.specs.Parts.{Fits}
-use Rattle.filterset_texts.specs.declared.part.Part.TheVariants as part
-use Rattle.filterset_texts.proofs.Cuts.{together_then}
-use Rattle.filterset_texts.proofs.Rows.{made_so}
+use Rattle.filterset_texts.proofs.{Cuts.together_then, Rows.made_so}
 use Rattle.filterset_texts.proofs.TokenTexts.{any_char_fits, class_fits, first_run_fits, last_run_fits, literal_matches, middle_run_fits, star_fits}
+use Rattle.filterset_texts.specs.declared.part.Part.TheVariants as part
 use Rattle.filterset_texts.proofs.tokens.expand_plain.Goals as goal
 
 pub returns-in_ok-make_literal-in-Literal-clause-matched : goal.returns-in_ok-make_literal-in-Literal-clause-matched

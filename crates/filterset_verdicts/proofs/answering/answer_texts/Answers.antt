@@ -1,12 +1,11 @@
 use Rattle.std.proofs.Common.{◌<◌, [], filter, inl, length, map, subst, sym}
-use Rattle.std.proofs.lemmas.List.{length-map}
-use Rattle.std.proofs.lemmas.Result.{IfOk-weaker}
+use Rattle.std.proofs.lemmas.{List.length-map, Result.IfOk-weaker}
 use Rattle.std.specs.List.{AllZip}
 use Rattle.filterset_entries.specs.Checked.{text_row}
 use Rattle.filterset_answers.specs.Compiled.{AreFiltersets, IsOverrideFor, sets_group}
 use Rattle.filterset_answers.specs.Picking.{parsed_of}
-use Rattle.filterset_verdicts.specs.Verdicts.{question_rows}
 use Rattle.filterset_answers.proofs.PickingLemmas.{basis_of, compiled_trees, trees_of}
+use Rattle.filterset_verdicts.specs.Verdicts.{question_rows}
 use Rattle.filterset_verdicts.proofs.TreeLemmas.{some_filterset}
 use Rattle.filterset_verdicts.proofs.answering.answer_texts.Goals as goal
 

@@ -4,17 +4,12 @@ use Rattle.filterset_answers.specs.Picking.{compiled_of, parsed_of}
 use Rattle.filterset_entries.specs.declared.text.Answer.{Answer}
 use Rattle.filterset_deciding.specs.Deciding.{IsAlwaysMet, IsUnmetAt, leaves_asked, steps_asked}
 use Rattle.filterset_deciding.specs.Demands.{HasUncompared, IsDoubtAbout}
+use Rattle.filterset_deciding.specs.declared.{demand.Doubt.Doubt, witness.Witness.Witness}
 use Rattle.filterset_deciding.specs.declared.deciding.Verdict.TheVariants as verdicts
-use Rattle.filterset_deciding.specs.declared.demand.Doubt.{Doubt}
-use Rattle.filterset_deciding.specs.declared.witness.Witness.{Witness}
-use Rattle.filterset_expression.specs.Contexts.{default_of}
-use Rattle.filterset_expression.specs.Meaning.{IsCompiled}
-use Rattle.filterset_expression.specs.declared.expression.CompiledExpr.{CompiledExpr}
-use Rattle.filterset_expression.specs.declared.query.TestQuery.{TestQuery}
+use Rattle.filterset_expression.specs.{Contexts.default_of, Meaning.IsCompiled}
+use Rattle.filterset_expression.specs.declared.{expression.CompiledExpr.CompiledExpr, query.TestQuery.TestQuery}
 use Rattle.nextest_filtering.specs.declared.filterset.Filterset.{Filterset}
-use Rattle.filterset_verdicts.specs.ListedTests.{AreTestsOf}
-use Rattle.filterset_verdicts.specs.VerdictForm.{IsExplainedIn}
-use Rattle.filterset_verdicts.specs.VerdictText.{ending_of}
+use Rattle.filterset_verdicts.specs.{ListedTests.AreTestsOf, VerdictForm.IsExplainedIn, VerdictText.ending_of}
 use Rattle.filterset_verdicts.specs.Verdicts.{Decides, IsShown}
 use Rattle.filterset_verdicts.proofs.VerdictLemmas.{both_ok}
 use Rattle.filterset_verdicts.proofs.TreeLemmas.{first_and_others, others_whole, right_of}

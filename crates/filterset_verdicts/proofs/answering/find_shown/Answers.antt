@@ -1,7 +1,6 @@
 use Rattle.std.proofs.Common.{Option}
 use Rattle.std.specs.Prelude.{IfNone, IfSome}
-use Rattle.filterset_deciding.specs.Listed.{IsFirstUnmet, IsMetByAll}
-use Rattle.filterset_deciding.specs.declared.witness.Witness.{Witness}
+use Rattle.filterset_deciding.specs.{Listed.IsFirstUnmet, Listed.IsMetByAll, declared.witness.Witness.Witness}
 use Rattle.filterset_expression.specs.Contexts.{default_of}
 use Rattle.filterset_verdicts.proofs.VerdictLemmas.{both_ok, some_or_none}
 use Rattle.filterset_verdicts.proofs.answering.find_shown.Goals as goal

@@ -1,15 +1,13 @@
 use Rattle.std.proofs.Common.{◌∙◌, ◌⊎◌, List, ap, inl, inr, refl, string_bytes, subst}
 use Rattle.std.specs.Prelude.{IfOk}
 use Rattle.std.proofs.lemmas.Result.{IfErr-weaker, IfOk-weaker, err_from_is_err_and}
-use Rattle.filterset_drawing.specs.Columns.{Text}
-use Rattle.filterset_drawing.specs.declared.source.Source.{Source}
+use Rattle.filterset_drawing.specs.{Columns.Text, declared.source.Source.Source}
 use Rattle.filterset_entries.specs.declared.text.Answer.{Answer}
 use Rattle.filterset_configuration.specs.declared.profiles.Profile.{Profile}
-use Rattle.filterset_loading.specs.Configurations.{IsSettingsFault}
-use Rattle.filterset_verdicts.specs.Deciding.{AnswersNamed, IsNamedFault, LacksNamed, naming_of}
-use Rattle.filterset_loading.specs.declared.fault.CommandFault.{CommandFault}
-use Rattle.filterset_loading.specs.declared.fault.FileRole.TheVariants as roles
+use Rattle.filterset_loading.specs.{Configurations.IsSettingsFault, declared.fault.CommandFault.CommandFault}
 use Rattle.filterset_loading.proofs.FaultLemmas.{OrMemory-weaker}
+use Rattle.filterset_verdicts.specs.Deciding.{AnswersNamed, IsNamedFault, LacksNamed, naming_of}
+use Rattle.filterset_loading.specs.declared.fault.FileRole.TheVariants as roles
 use Rattle.filterset_verdicts.proofs.deciding.decide_configured.Goals as goal
 
 pub returns-clause-answered : goal.returns-clause-answered

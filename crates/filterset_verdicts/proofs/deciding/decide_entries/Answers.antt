@@ -1,5 +1,4 @@
-use Rattle.std.proofs.Common.{refl}
-use Rattle.std.proofs.lemmas.Result.{IfOk-weaker}
+use Rattle.std.proofs.{Common.refl, lemmas.Result.IfOk-weaker}
 use Rattle.filterset_verdicts.specs.declared.answering.TextQuestion.{TextQuestion}
 use Rattle.filterset_verdicts.proofs.deciding.decide_entries.Goals as goal
 

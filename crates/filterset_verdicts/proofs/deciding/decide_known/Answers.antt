@@ -1,6 +1,5 @@
 use Rattle.std.proofs.Common.{◌≡◌, ◌∙◌, None, Option, Some, ap, refl}
-use Rattle.std.specs.Borrow.{Bor}
-use Rattle.std.specs.Prelude.{unwrap_or}
+use Rattle.std.specs.{Borrow.Bor, Prelude.unwrap_or}
 use Rattle.filterset_drawing.specs.Columns.{Text}
 use Rattle.filterset_entries.specs.Entries.{default_row}
 use Rattle.filterset_loading.specs.Configurations.{given_row}

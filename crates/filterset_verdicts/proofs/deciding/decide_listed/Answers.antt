@@ -3,11 +3,10 @@ use Rattle.std.proofs.lemmas.Result.{IfErr-weaker, IfOk-weaker, err_from_is_err_
 use Rattle.std.specs.Prelude.{IsSomeAnd}
 use Rattle.serde_json.specs.View.{view}
 use Rattle.filterset_verdicts.specs.Deciding.{IsListedFault, IsNamedFault}
-use Rattle.filterset_loading.specs.Workspaces.{IsPlatformsFault}
-use Rattle.filterset_loading.specs.declared.fault.CommandFault.{CommandFault}
-use Rattle.filterset_loading.specs.declared.profile.ProfileRequest.{ProfileRequest}
-use Rattle.filterset_loading.proofs.FaultLemmas.{OrMemory-weaker}
 use Rattle.filterset_verdicts.proofs.NamingLemmas.{some_and_weaker}
+use Rattle.filterset_loading.specs.Workspaces.{IsPlatformsFault}
+use Rattle.filterset_loading.specs.declared.{fault.CommandFault.CommandFault, profile.ProfileRequest.ProfileRequest}
+use Rattle.filterset_loading.proofs.FaultLemmas.{OrMemory-weaker}
 use Rattle.filterset_verdicts.proofs.deciding.decide_listed.Goals as goal
 
 -- the platforms of the list are wrong

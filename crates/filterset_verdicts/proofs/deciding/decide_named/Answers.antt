@@ -1,13 +1,11 @@
 use Rattle.std.proofs.Common.{◌≡◌, ◌∙◌, ◌++◌, List, ap, inl, inr, map, string_bytes, subst, sym}
 use Rattle.std.proofs.lemmas.Result.{err_from_is_err_and}
-use Rattle.std.specs.List.{Contains}
-use Rattle.std.specs.Prelude.{codes}
+use Rattle.std.specs.{List.Contains, Prelude.codes}
 use Rattle.filterset_entries.specs.Checked.{TextRow, text_row}
 use Rattle.filterset_drawing.specs.Columns.{Text}
 use Rattle.filterset_configuration.specs.declared.profiles.Profile.{Profile}
 use Rattle.filterset_verdicts.specs.Deciding.{LacksAny, LacksNamed, request_rows}
-use Rattle.filterset_loading.specs.declared.request.DecisionRequest.{DecisionRequest}
-use Rattle.filterset_loading.specs.declared.fault.CommandFault.{CommandFault}
+use Rattle.filterset_loading.specs.declared.{request.DecisionRequest.DecisionRequest, fault.CommandFault.CommandFault}
 use Rattle.filterset_loading.specs.declared.profile.ProfileRequest.{ProfileRequest}
 use Rattle.filterset_loading.proofs.FaultLemmas.{OrMemory-weaker}
 use Rattle.filterset_verdicts.proofs.deciding.decide_named.Goals as goal

@@ -1,6 +1,5 @@
 use Rattle.std.proofs.Common.{◌≡◌, Bor, Global, List, String, ℕ, map, rules, string_bytes, subst}
-use Rattle.std.specs.HashSet.{keys}
-use Rattle.std.specs.Map.Iter.{deref}
+use Rattle.std.specs.{HashSet.keys, Map.Iter.deref}
 use Rattle.std.proofs.lemmas.Map.Iter.{iter_end}
 use Rattle.filterset_verdicts.proofs.listed.custom_names.Goals as goal
 

@@ -1,5 +1,4 @@
-use Rattle.std.proofs.Common.{arith}
-use Rattle.std.proofs.lemmas.Str.Pattern.{strip_prefix_char}
+use Rattle.std.proofs.{Common.arith, lemmas.Str.Pattern.strip_prefix_char}
 use Rattle.filterset_verdicts.proofs.naming.profile_name.Goals as goal
 
 pub returns : goal.returns

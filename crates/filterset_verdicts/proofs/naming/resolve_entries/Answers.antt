@@ -1,13 +1,10 @@
 use Rattle.std.proofs.Common.{rules, ◌∷◌, [], Ok, map, length}
-use Rattle.std.proofs.lemmas.Iterator.Adapters.{YieldsList-from_vec}
-use Rattle.std.proofs.lemmas.Iterator.Consumers.{YieldsList-turn}
-use Rattle.std.proofs.lemmas.List.{map-append}
-use Rattle.std.proofs.lemmas.Result.{err_from_is_err_and}
-use Rattle.std.proofs.lemmas.Slice.Zip.{all_zipped_more}
+use Rattle.std.proofs.lemmas.Iterator.{Adapters.YieldsList-from_vec, Consumers.YieldsList-turn}
+use Rattle.std.proofs.lemmas.{List.map-append, Result.err_from_is_err_and, Slice.Zip.all_zipped_more}
 use Rattle.filterset_entries.specs.Checked.{TextRow, text_row}
 use Rattle.filterset_verdicts.specs.Deciding.{LacksAny, LacksOwn, ResolvesTo, naming_of}
-use Rattle.filterset_loading.proofs.FaultLemmas.{OrMemory-weaker}
 use Rattle.filterset_verdicts.proofs.NamingLemmas.{contains_image}
+use Rattle.filterset_loading.proofs.FaultLemmas.{OrMemory-weaker}
 use Rattle.filterset_verdicts.proofs.naming.resolve_entries.Goals as goal
 
 pub returns-in_err-entry-clause-missing : goal.returns-in_err-entry-clause-missing

@@ -1,6 +1,5 @@
 use Rattle.std.proofs.Common.{rules, arith, ◌≡◌, ◌<◌, ◌+◌, ◌∙◌, Global, String, [], ◌∷◌, ◌++◌, length, get_or, string_bytes, take, ap}
-use Rattle.std.proofs.lemmas.List.{take_more}
-use Rattle.std.proofs.lemmas.Slice.Zip.{all_zipped_more}
+use Rattle.std.proofs.lemmas.{List.take_more, Slice.Zip.all_zipped_more}
 use Rattle.filterset_expression.specs.Contexts.{default_of}
 use Rattle.nextest_filtering.specs.declared.filterset.Filterset.{Filterset}
 use Rattle.filterset_verdicts.specs.Reasons.{IsReasonOf}

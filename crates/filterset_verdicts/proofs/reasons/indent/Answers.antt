@@ -1,5 +1,4 @@
-use Rattle.std.proofs.lemmas.Iterator.Consumers.{YieldsList-end}
-use Rattle.std.proofs.lemmas.Iterator.Splits.{YieldsList-from_lines}
+use Rattle.std.proofs.lemmas.Iterator.{Consumers.YieldsList-end, Splits.YieldsList-from_lines}
 use Rattle.filterset_verdicts.proofs.reasons.indent.Goals as goal
 
 pub returns : goal.returns

@@ -1,8 +1,7 @@
 use Rattle.filterset_grammar.specs.Tree.{tree_leaves}
 use Rattle.filterset_language.specs.Views.{tree_of}
 use Rattle.nextest_filtering.specs.Compiling.{packages_of}
-use Rattle.nextest_filtering.proofs.Refusals.{where_it_returns}
-use Rattle.nextest_filtering.proofs.Unmatched.{added_twice}
+use Rattle.nextest_filtering.proofs.{Refusals.where_it_returns, Unmatched.added_twice}
 use Rattle.nextest_filtering.proofs.compile.+compile_expr.Goals as goal
 
 pub returns-in_ok-right-in-Union-clause-unmatched : goal.returns-in_ok-right-in-Union-clause-unmatched

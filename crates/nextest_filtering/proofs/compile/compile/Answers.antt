@@ -1,16 +1,12 @@
 use Rattle.std.proofs.Common.{◌≡◌, ◌≢◌, List, [], ◌∷◌, ◌++◌, Bor, map, ap, sym, ◌∙◌, refl, subst, arith}
 use Rattle.std.proofs.lemmas.Grind.{common_steps}
 use Rattle.std.specs.List.{filter_map}
-use Rattle.filterset_faults.specs.declared.error.ParseSingleError.{ParseSingleError}
-use Rattle.filterset_faults.specs.declared.span.SourceSpan.{SourceSpan}
+use Rattle.filterset_faults.specs.declared.{error.ParseSingleError.ParseSingleError, span.SourceSpan.SourceSpan}
 use Rattle.filterset_grammar.specs.Tree.{Leaf, tree_leaves}
-use Rattle.filterset_language.specs.Views.{leaf_of, tree_of}
-use Rattle.filterset_language.specs.declared.tree.ParsedLeaf.{ParsedLeaf}
-use Rattle.nextest_filtering.specs.Bans.{ban}
-use Rattle.nextest_filtering.specs.Checks.{AreUnmatched}
+use Rattle.filterset_language.specs.{Views.leaf_of, Views.tree_of, declared.tree.ParsedLeaf.ParsedLeaf}
+use Rattle.nextest_filtering.specs.{Bans.ban, Checks.AreUnmatched}
 use Rattle.nextest_filtering.specs.Compiling.{packages_of, banned, unmatched}
-use Rattle.nextest_filtering.proofs.Banned.{bans_of_chosen, some_ban, allowed}
-use Rattle.nextest_filtering.proofs.Unmatched.{none_unmatched}
+use Rattle.nextest_filtering.proofs.{Banned.bans_of_chosen, Banned.some_ban, Banned.allowed, Unmatched.none_unmatched}
 use Rattle.nextest_filtering.proofs.compile.compile.Goals as goal
 
 abbrev seen : Bor (ParsedLeaf SourceSpan) → Leaf SourceSpan

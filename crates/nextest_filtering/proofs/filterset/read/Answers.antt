@@ -1,12 +1,11 @@
 use Rattle.std.proofs.Common.{◌≡◌, ◌≢◌, ◌∙◌, [], Some, ap, arith, eqb-true, length, rules, subst, sym}
 use Rattle.std.proofs.lemmas.List.{take_all}
 use Rattle.std.specs.Prelude.{option_map}
-use Rattle.filterset_language.specs.Parsed.{Reads}
+use Rattle.filterset_language.specs.{Parsed.Reads, Views.tree_of}
 use Rattle.nextest_filtering.specs.Compiling.{found, packages_of, IsStopOf}
-use Rattle.filterset_language.specs.Views.{tree_of}
 use Rattle.nextest_filtering.proofs.Refusals.{handed_on, refuted, stopped}
-use Rattle.nextest_filtering.proofs.filterset.read.Goals as goal
 use Rattle.nextest_filtering.proofs.filterset.read.Goals.{in_default-via-in-Some+else-is_empty, in_default-via-in_default}
+use Rattle.nextest_filtering.proofs.filterset.read.Goals as goal
 
 pub returns-in_default-clause-refused : goal.returns-in_default-clause-refused
 returns-in_default-clause-refused c =

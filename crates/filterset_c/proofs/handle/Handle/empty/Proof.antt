@@ -1,6 +1,6 @@
 -- `empty` makes a handle of null.
-use Rattle.std.proofs.Common.{[], ◌∷◌, refl, lit<}
-use Rattle.std.proofs.raw_atomic.Walks.{proved}
+use Rattle.std.proofs.{Common.[], Common.◌∷◌, Common.refl, Common.lit<, raw_atomic.Walks.proved}
+use Rattle.std.specs.declared.option.Option.TheVariants.{None}
 use base.Logic.{emp}
 use types.Kit.{raw, ◌$◌, ◌∵◌, !, qed, drop, join, feq_i, suffices, done}
 use types.Run.{enter, lit, no_more, and_then, returns}
@@ -10,10 +10,8 @@ use denote.RawPtr.{Ptr, null_ptr}
 use denote.Steps.{nothing}
 use denote.Triple.Entry.{on_entry}
 use denote.Triple.Walked.{says, Stays, walk_of, ends_at}
-use Rattle.std.specs.declared.option.Option.TheVariants.{None}
-use Rattle.filterset_c.proofs.Steps.{one_word, handle_in}
+use Rattle.filterset_c.proofs.{Steps.one_word, Steps.handle_in, handle.Handle.empty.Statement.statement}
 use Rattle.filterset_c.specs.contracts.handle.Handle.empty as f
-use Rattle.filterset_c.proofs.handle.Handle.empty.Statement.{statement}
 use Rattle.filterset_c.proofs.handle.Handle.empty.Code as code
 
 abbrev stayed : Stays f.ended.signature.params f.ended.kept

@@ -1,5 +1,8 @@
 -- `into_raw` asks whether the address is null; else what the handle owned goes to the raw box.
 use Rattle.std.proofs.Common.{◌≡◌, List, [], ◌∷◌, ◌++◌, refl, sym, ap, ◌∙◌, subst, lit<}
+use Rattle.std.proofs.{alloc.Calls.handle_tells, alloc.Shapes.after, option.Made.Some-of, option.Made.none_of}
+use Rattle.std.proofs.{ResultValues.and_tt, raw_atomic.Walks.proved_at, raw_atomic.Walks.leaves}
+use Rattle.std.specs.declared.option.Option.TheVariants.{None, Some}
 use mir.Val.{Val, vnil, vcons}
 use base.Logic.{SProp, ent, emp}
 use base.Fml.{ftrue}
@@ -17,19 +20,12 @@ use denote.RawPtr.{Ptr, block_ptr, null_ptr, tests_null}
 use denote.Signature.{Slot, plain, types_at, type_at}
 use denote.Steps.{nothing}
 use denote.Triple.Walked.{Stays, stay_dropped, walk_of, Goes-dropped}
-use Rattle.std.proofs.alloc.Calls.{handle_tells}
-use Rattle.std.proofs.alloc.Shapes.{after}
-use Rattle.std.proofs.option.Made.{Some-of, none_of}
-use Rattle.std.proofs.ResultValues.{and_tt}
 use Rattle.std.proofs.BoxSteps.Form as box
-use Rattle.std.proofs.raw_atomic.Walks.{proved_at, leaves}
 use Rattle.std.specs.contracts.alloc.Global as heap
-use Rattle.std.specs.declared.option.Option.TheVariants.{None, Some}
 use Rattle.filterset_c.proofs.Steps.{Heap, Raw, boxed, one_word, raw_in, handle_out, by_address}
-use Rattle.filterset_c.specs.contracts.handle.Handle as handle
-use Rattle.filterset_c.specs.contracts.handle.Handle.into_raw.{ended, clauses}
-use Rattle.filterset_c.specs.contracts.handle.Handle.into_raw.Key.{name as #self}
+use Rattle.filterset_c.specs.contracts.handle.Handle.into_raw.{ended, clauses, Key.name as #self}
 use Rattle.filterset_c.proofs.handle.Handle.into_raw.Statement.{statement}
+use Rattle.filterset_c.specs.contracts.handle.Handle as handle
 use Rattle.filterset_c.proofs.handle.Handle.into_raw.Code as code
 
 abbrev From : Slot 0

@@ -1,5 +1,8 @@
 -- `of_raw` keeps the address, and what the raw box owned goes with it.
 use Rattle.std.proofs.Common.{◌≡◌, List, [], ◌∷◌, ◌++◌, refl, sym, subst}
+use Rattle.std.proofs.{alloc.Calls.Goes-blank, raw_atomic.Walks.proved_at, raw_atomic.Walks.leaves}
+use Rattle.std.specs.declared.{alloc.Global.Global, option.Option.TheVariants.Some}
+use Rattle.std.specs.contracts.impls.GlobalAllocator.TheImpl.{ghosts}
 use mir.Val.{Val}
 use base.Logic.{SProp, ent, emp, id⊢}
 use base.Fml.{ftrue}
@@ -16,19 +19,13 @@ use denote.RattleType.{owns}
 use denote.Signature.{plain, types_at}
 use denote.Steps.{nothing}
 use denote.Triple.Walked.{Stays, stay_dropped, walk_of}
-use Rattle.std.proofs.alloc.Calls.{Goes-blank}
 use Rattle.std.proofs.BoxSteps.Form as box
-use Rattle.std.proofs.raw_atomic.Walks.{proved_at, leaves}
-use Rattle.std.specs.declared.alloc.Global.{Global}
-use Rattle.std.specs.declared.option.Option.TheVariants.{Some}
 use Rattle.filterset_c.proofs.Steps.{Heap, boxed, one_word, raw_out, handle_in}
+use Rattle.filterset_c.specs.contracts.handle.Handle.of_raw.{ended, clauses, Key.name as #self}
+use Rattle.filterset_c.proofs.handle.Handle.of_raw.Statement.{statement}
 use Rattle.filterset_c.specs.contracts.object.Object as object
 use Rattle.filterset_c.specs.contracts.raw_box.RawBox as raw_box
 use Rattle.std.specs.contracts.alloc.Global as heap
-use Rattle.std.specs.contracts.impls.GlobalAllocator.TheImpl.{ghosts}
-use Rattle.filterset_c.specs.contracts.handle.Handle.of_raw.{ended, clauses}
-use Rattle.filterset_c.specs.contracts.handle.Handle.of_raw.Key.{name as #self}
-use Rattle.filterset_c.proofs.handle.Handle.of_raw.Statement.{statement}
 use Rattle.filterset_c.proofs.handle.Handle.of_raw.Code as code
 
 abbrev From : denote.Signature.Slot 0

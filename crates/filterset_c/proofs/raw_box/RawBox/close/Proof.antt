@@ -1,5 +1,9 @@
 -- `close` hands what the raw box owns to `from_raw`.
 use Rattle.std.proofs.Common.{◌≡◌, List, [], ◌∷◌, ◌++◌, refl, sym, ap, subst}
+use Rattle.std.proofs.alloc.{Calls.token, Calls.Goes-blank, Shapes.after}
+use Rattle.std.specs.Box.Ownership.{box_owns}
+use Rattle.std.proofs.BoxSteps.Steps.{box_out, box_in}
+use Rattle.std.proofs.{raw_atomic.Walks.proved_at, raw_atomic.Walks.leaves, boxed.Box.from_raw.Met.met}
 use mir.Syntax.{a_type, dcons, dnil}
 use mir.MapTy.{inst_fn}
 use mir.Val.{Val, vptr}
@@ -23,18 +27,10 @@ use denote.Triple.Call.{calls_at_last}
 use denote.Triple.Spec.{triple_of}
 use denote.Triple.Walked.{Stays, stay_dropped, walk_of}
 use denote.Triple.Table.{framed}
-use Rattle.std.proofs.alloc.Calls.{token, Goes-blank}
-use Rattle.std.proofs.alloc.Shapes.{after}
-use Rattle.std.specs.Box.Ownership.{box_owns}
 use Rattle.std.proofs.BoxSteps.Form as box
-use Rattle.std.proofs.BoxSteps.Steps.{box_out, box_in}
-use Rattle.std.proofs.raw_atomic.Walks.{proved_at, leaves}
 use Rattle.std.specs.contracts.boxed.Box.from_raw as callee
-use Rattle.std.proofs.boxed.Box.from_raw.Met.{met}
-use Rattle.filterset_c.proofs.Steps.{Raw, raw_out}
-use Rattle.filterset_c.specs.contracts.raw_box.RawBox.close.{ended, clauses}
-use Rattle.filterset_c.specs.contracts.raw_box.RawBox.close.Key.{name as #self}
-use Rattle.filterset_c.proofs.raw_box.RawBox.close.Statement.{statement}
+use Rattle.filterset_c.proofs.{Steps.Raw, Steps.raw_out, raw_box.RawBox.close.Statement.statement}
+use Rattle.filterset_c.specs.contracts.raw_box.RawBox.close.{ended, clauses, Key.name as #self}
 use Rattle.filterset_c.proofs.raw_box.RawBox.close.Code as code
 
 pub close_spec : {M : Type 1} → statement M

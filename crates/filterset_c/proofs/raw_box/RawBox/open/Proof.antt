@@ -1,5 +1,9 @@
 -- `open` calls `into_raw_with_allocator`, and what the box owned goes to the raw box.
 use Rattle.std.proofs.Common.{◌≡◌, List, [], ◌∷◌, ◌++◌, refl, sym, ap, ◌∙◌, subst}
+use Rattle.std.proofs.alloc.Calls.{token, handle_tells, Goes-blank}
+use Rattle.std.specs.Box.Ownership.{box_owns}
+use Rattle.std.proofs.BoxSteps.Steps.{box_out, box_in}
+use Rattle.std.proofs.{raw_atomic.Walks.proved_at, raw_atomic.Walks.leaves, boxed.Box.into_raw_with_allocator.Met.met}
 use mir.Syntax.{a_type, dcons, dnil}
 use mir.MapTy.{inst_fn}
 use mir.Raw.{raw as bare}
@@ -25,17 +29,10 @@ use denote.Triple.Call.{calls_at}
 use denote.Triple.Spec.{triple_of}
 use denote.Triple.Walked.{Stays, stay_dropped, walk_of}
 use denote.Triple.Table.{framed}
-use Rattle.std.proofs.alloc.Calls.{token, handle_tells, Goes-blank}
-use Rattle.std.specs.Box.Ownership.{box_owns}
 use Rattle.std.proofs.BoxSteps.Form as box
-use Rattle.std.proofs.BoxSteps.Steps.{box_out, box_in}
-use Rattle.std.proofs.raw_atomic.Walks.{proved_at, leaves}
 use Rattle.std.specs.contracts.boxed.Box.into_raw_with_allocator as callee
-use Rattle.std.proofs.boxed.Box.into_raw_with_allocator.Met.{met}
-use Rattle.filterset_c.proofs.Steps.{raw_in}
-use Rattle.filterset_c.specs.contracts.raw_box.RawBox.open.{ended, clauses}
-use Rattle.filterset_c.specs.contracts.raw_box.RawBox.open.Key.{name as #self}
-use Rattle.filterset_c.proofs.raw_box.RawBox.open.Statement.{statement}
+use Rattle.filterset_c.proofs.{Steps.raw_in, raw_box.RawBox.open.Statement.statement}
+use Rattle.filterset_c.specs.contracts.raw_box.RawBox.open.{ended, clauses, Key.name as #self}
 use Rattle.filterset_c.proofs.raw_box.RawBox.open.Code as code
 
 pub open_spec : {M : Type 1} → statement M

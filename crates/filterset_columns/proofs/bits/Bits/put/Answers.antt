@@ -1,7 +1,5 @@
 use Rattle.std.proofs.Common.{◌≡◌, ◌<◌, ◌/◌, ◌%◌, ◌*◌, ◌^◌, length, slice_index, slice_set, bit_or, arith, ◌∙◌, ◌==◌, ◌||◌, ap, sym}
-use Rattle.std.proofs.Math.Bool.{and-true}
-use Rattle.std.proofs.lemmas.List.{get_or_read}
-use Rattle.std.proofs.lemmas.Nat.{one_shl}
+use Rattle.std.proofs.{Math.Bool.and-true, lemmas.List.get_or_read, lemmas.Nat.one_shl}
 use Rattle.filterset_columns.specs.Bits.{bit_of}
 use Rattle.filterset_columns.proofs.BitLemmas.{set_bit}
 use Rattle.filterset_columns.proofs.bits.Bits.put.Goals as goal

@@ -1,9 +1,8 @@
 use Rattle.std.proofs.Common.{◌≡◌, ◌∙◌, sym, subst, false, IfOk}
 use Rattle.filterset_columns.proofs.Defaults.{without_default}
-use Rattle.filterset_expression.specs.Expression.{has_leaf, is_default, with_default, HoldsOfTest}
-use Rattle.filterset_expression.specs.Formula.{TrueWhere}
-use Rattle.filterset_expression.specs.declared.expression.CompiledExpr.{CompiledExpr}
 use Rattle.filterset_columns.specs.Columns.{default_filter_of, expr_of, names_of, test_of, Answered}
+use Rattle.filterset_expression.specs.Expression.{has_leaf, is_default, with_default, HoldsOfTest}
+use Rattle.filterset_expression.specs.{Formula.TrueWhere, declared.expression.CompiledExpr.CompiledExpr}
 use Rattle.filterset_columns.proofs.expression.ColumnExpr.evaluate.Goals as goal
 
 pub returns-then-not-self-clause-holds : goal.returns-then-not-self-clause-holds

@@ -3,8 +3,7 @@ use Rattle.filterset_expression.specs.Expression.{no_groups, with_default}
 use Rattle.filterset_expression.proofs.LeafAnswers.{definite_of_test, lookups_alike}
 use Rattle.filterset_expression.proofs.Meanings.{compiled_means}
 use Rattle.filterset_columns.specs.Columns.{answer_of, default_filter_of, expr_of, names_of, test_of}
-use Rattle.filterset_columns.proofs.Defaults.{without_groups}
-use Rattle.filterset_columns.proofs.ColumnLemmas.{answered_alike, some_item}
+use Rattle.filterset_columns.proofs.{Defaults.without_groups, ColumnLemmas.answered_alike, ColumnLemmas.some_item}
 use Rattle.filterset_columns.proofs.expression.ColumnExpr.matches_tests.Goals as goal
 
 pub returns-clause-settled : goal.returns-clause-settled

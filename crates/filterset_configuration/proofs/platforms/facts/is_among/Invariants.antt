@@ -1,6 +1,5 @@
 use Rattle.std.proofs.Common.{◌≡◌, drop, map}
-use Rattle.filterset_configuration.specs.PlatformTrees.{setting_of}
-use Rattle.filterset_configuration.specs.PlatformValues.{is_set}
+use Rattle.filterset_configuration.specs.{PlatformTrees.setting_of, PlatformValues.is_set}
 use Rattle.filterset_configuration.proofs.platforms.facts.is_among.Given as goal
 
 abbrev pub invariant-loop-other : goal.invariant-loop-other

@@ -3,10 +3,9 @@ use Rattle.std.proofs.lemmas.Iterator.Consumers.{YieldsList-end, YieldsList-so_f
 use Rattle.std.proofs.lemmas.Iterator.Splits.{YieldsList-from_lines}
 use Rattle.std.proofs.lemmas.List.{get_or_default, length-map, map-append}
 use Rattle.std.specs.Str.Lines.{lines}
-use Rattle.filterset_configuration.specs.PlatformTrees.{Setting, setting_of}
-use Rattle.filterset_json.specs.Shape.{Text}
-use Rattle.filterset_configuration.specs.PlatformGrammar.{IsLine}
+use Rattle.filterset_configuration.specs.{PlatformTrees.Setting, PlatformTrees.setting_of, PlatformGrammar.IsLine}
 use Rattle.filterset_configuration.proofs.PlatformLines.{as_many, line_at, one_more_line}
+use Rattle.filterset_json.specs.Shape.{Text}
 use Rattle.filterset_configuration.proofs.platforms.facts.read_lines.Goals as goal
 
 pub returns-in_default-clause-refused : goal.returns-in_default-clause-refused

@@ -1,7 +1,6 @@
 use Rattle.std.proofs.Common.{map}
 use Rattle.std.specs.List.{AllZip}
-use Rattle.filterset_configuration.specs.PlatformTrees.{setting_of}
-use Rattle.filterset_configuration.specs.PlatformGrammar.{IsLine}
+use Rattle.filterset_configuration.specs.{PlatformTrees.setting_of, PlatformGrammar.IsLine}
 use Rattle.filterset_configuration.proofs.platforms.facts.read_lines.Given as goal
 
 -- the lines so far are those of the settings

@@ -1,6 +1,5 @@
 use Rattle.std.proofs.Common.{◌≡◌, drop, map}
-use Rattle.filterset_configuration.specs.PlatformTrees.{setting_of}
-use Rattle.filterset_configuration.specs.PlatformValues.{sets}
+use Rattle.filterset_configuration.specs.{PlatformTrees.setting_of, PlatformValues.sets}
 use Rattle.filterset_configuration.proofs.platforms.facts.sets.Given as goal
 
 abbrev pub invariant-loop-setting : goal.invariant-loop-setting

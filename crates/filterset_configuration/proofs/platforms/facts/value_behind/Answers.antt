@@ -1,5 +1,4 @@
-use Rattle.std.proofs.Common.{◌∷◌, ap, sym, ◌∙◌, lit<}
-use Rattle.std.proofs.lemmas.Str.Pattern.{strip_suffix_char}
+use Rattle.std.proofs.{Common.◌∷◌, Common.ap, Common.sym, Common.◌∙◌, Common.lit<, lemmas.Str.Pattern.strip_suffix_char}
 use Rattle.filterset_json.specs.Shape.{Text}
 use Rattle.filterset_configuration.proofs.PlatformLines.{value_found}
 use Rattle.filterset_configuration.proofs.platforms.facts.value_behind.Goals as goal

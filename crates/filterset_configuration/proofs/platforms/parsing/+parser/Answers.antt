@@ -2,13 +2,12 @@ use Rattle.std.proofs.Common.{rules, ◌≡◌, inl, inr, refl, sym, ap, subst, 
 use Rattle.std.specs.Prelude.{codes}
 use Rattle.filterset_configuration.specs.declared.platforms.expressions.CfgExpr.{CfgExpr}
 use Rattle.filterset_configuration.specs.PlatformTrees.{Expr, Exprs, all, any, negated, none, more, expr_of, exprs_of}
-use Rattle.filterset_json.specs.Shape.{Text}
 use Rattle.filterset_configuration.specs.PlatformGrammar.{Expression, GoesOn, Inside, Sign}
 use Rattle.filterset_configuration.proofs.PlatformFaults.{gives_error, placed_along, placed_error, true_along}
 use Rattle.filterset_configuration.proofs.PlatformLists.{◌⊕◌, Tail, after_comma, append_none, append_one, closes_read, ended, exprs_of_append, goes_on, no_comma, sign_same}
 use Rattle.filterset_configuration.proofs.PlatformPhrases.{all_phrase, any_phrase, gives_along, not_phrase}
-use Rattle.filterset_configuration.proofs.PlatformRows.{expr_of_all, expr_of_any}
-use Rattle.filterset_configuration.proofs.PlatformWords.{rest_along}
+use Rattle.filterset_configuration.proofs.{PlatformRows.expr_of_all, PlatformRows.expr_of_any, PlatformWords.rest_along}
+use Rattle.filterset_json.specs.Shape.{Text}
 use Rattle.filterset_configuration.proofs.platforms.parsing.+parser.Goals as goal
 
 pub read_all-returns-in_err-expressions-clause-only : goal.read_all-returns-in_err-expressions-clause-only

@@ -1,11 +1,10 @@
 use Rattle.std.proofs.Common.{◌≡◌, ◌≤◌, ◌+◌, ◌*◌, length}
 use denote.Text.{Utf8}
 use denote.Shadow.{shadow}
-use Rattle.filterset_configuration.specs.PlatformGrammar.{Inside}
-use Rattle.filterset_configuration.specs.PlatformReading.{IsRest}
+use Rattle.filterset_configuration.specs.{PlatformGrammar.Inside, PlatformReading.IsRest}
 use Rattle.filterset_configuration.specs.PlatformTrees.{Exprs, exprs_of}
-use Rattle.filterset_json.specs.Shape.{Text}
 use Rattle.filterset_configuration.proofs.PlatformLists.{◌⊕◌}
+use Rattle.filterset_json.specs.Shape.{Text}
 use Rattle.filterset_configuration.proofs.platforms.parsing.+parser.Given as goal
 
 abbrev pub decreases-read_all : goal.decreases-read_all

@@ -1,5 +1,4 @@
-use Rattle.std.proofs.Common.{arith, ap, ◌∙◌}
-use Rattle.std.proofs.lemmas.List.{get_or_default}
+use Rattle.std.proofs.{Common.arith, Common.ap, Common.◌∙◌, lemmas.List.get_or_default}
 use Rattle.filterset_configuration.specs.PlatformGrammar.{is_triple_byte}
 use Rattle.filterset_configuration.proofs.PlatformFaults.{triple_fault}
 use Rattle.filterset_configuration.proofs.platforms.specification.read_triple.Goals as goal

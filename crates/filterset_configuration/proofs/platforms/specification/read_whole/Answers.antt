@@ -1,11 +1,9 @@
 use Rattle.std.proofs.Common.{arith, ◌≡◌, [], length, refl, sym, ap, subst}
 use Rattle.std.proofs.lemmas.Bool.Decides.{nat_tests}
-use Rattle.filterset_configuration.specs.PlatformTrees.{expr_of}
-use Rattle.filterset_json.specs.Shape.{Text}
-use Rattle.filterset_configuration.specs.PlatformGrammar.{Sign}
+use Rattle.filterset_configuration.specs.{PlatformTrees.expr_of, PlatformGrammar.Sign}
 use Rattle.filterset_configuration.proofs.PlatformFaults.{returns_error, true_along}
-use Rattle.filterset_configuration.proofs.PlatformLists.{sign_same}
-use Rattle.filterset_configuration.proofs.PlatformWords.{rest_along}
+use Rattle.filterset_configuration.proofs.{PlatformLists.sign_same, PlatformWords.rest_along}
+use Rattle.filterset_json.specs.Shape.{Text}
 use Rattle.filterset_configuration.proofs.platforms.specification.read_whole.Goals as goal
 
 pub returns-in_err-expression-clause-only : goal.returns-in_err-expression-clause-only

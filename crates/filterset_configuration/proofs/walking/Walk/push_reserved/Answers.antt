@@ -1,11 +1,9 @@
 use Rattle.std.proofs.Common.{rules, ◌≡◌, ◌++◌, ◌∷◌, [], Option, Some, append-nil, append_assoc, ap, false, if◌then◌else◌, string_bytes, sym, true, ◌∙◌}
 use Rattle.std.specs.Prelude.{option_and_then, unwrap_or}
-use Rattle.toml.specs.Data.{Members, as_table, get, no_members}
-use Rattle.toml.specs.View.{members_view, view}
+use Rattle.toml.specs.{Data.Members, Data.as_table, Data.get, Data.no_members, View.members_view, View.view}
 use Rattle.toml.proofs.Views.{Entry}
 use Rattle.filterset_json.specs.Paths.{key_text}
-use Rattle.filterset_configuration.specs.Names.{is_reserved}
-use Rattle.filterset_configuration.specs.Wrong.{name_values, row, value_rows}
+use Rattle.filterset_configuration.specs.{Names.is_reserved, Wrong.name_values, Wrong.row, Wrong.value_rows}
 use Rattle.filterset_sources.specs.Sections.{below}
 use Rattle.filterset_configuration.proofs.walking.Walk.push_reserved.Goals as goal
 

@@ -2,12 +2,10 @@ use Rattle.std.proofs.Common.{rules, arith, ◌≡◌, ◌<◌, ◌≤◌, ◌++
 use Rattle.std.specs.Prelude.{Contains}
 use Rattle.std.proofs.lemmas.List.{take_all}
 use Rattle.filterset_deciding.specs.Texts.{IsAmong}
-use Rattle.filterset_deciding.proofs.Agreeing.{each_taken}
-use Rattle.filterset_deciding.proofs.Branches.{each_pushed}
-use Rattle.filterset_deciding.proofs.Doubts.{contains_at, each_weaker}
+use Rattle.filterset_deciding.proofs.{Agreeing.each_taken, Branches.each_pushed, Doubts.contains_at, Doubts.each_weaker}
 use Rattle.filterset_deciding.proofs.Parts.{among_comparisons, among_left, among_own, among_unsearched}
-use Rattle.filterset_deciding.proofs.demand.Doubt.without_repeats.Goals as goal
 use Rattle.filterset_deciding.proofs.demand.Doubt.without_repeats.Goals.{then-not-is_repeated+in_ok-push, else-not-is_repeated}
+use Rattle.filterset_deciding.proofs.demand.Doubt.without_repeats.Goals as goal
 
 pub loop-demand-preserved : goal.loop-demand-preserved
 loop-demand-preserved c =

@@ -1,6 +1,5 @@
 use Rattle.std.proofs.Common.{take}
-use Rattle.std.specs.Prelude.{Contains}
-use Rattle.std.specs.List.{AllByRecursion}
+use Rattle.std.specs.{Prelude.Contains, List.AllByRecursion}
 use Rattle.filterset_deciding.specs.Texts.{IsAmong}
 use Rattle.filterset_deciding.proofs.demand.Doubt.without_repeats.Given as goal
 

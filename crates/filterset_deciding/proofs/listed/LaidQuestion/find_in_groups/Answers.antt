@@ -1,10 +1,8 @@
 use Rattle.std.proofs.Common.{arith, ◌<◌, ℕ, List, [], length, get_or, refl, sym}
 use Rattle.std.specs.Borrow.{Bor}
-use Rattle.std.proofs.lemmas.List.{take_all}
-use Rattle.std.proofs.lemmas.List.Elements.{Contains-get_or}
+use Rattle.std.proofs.lemmas.List.{take_all, Elements.Contains-get_or}
 use Rattle.filterset_deciding.specs.Listed.{IsMetAsked}
-use Rattle.filterset_deciding.proofs.Asking.{all_more}
-use Rattle.filterset_deciding.proofs.Doubts.{contains_mapped}
+use Rattle.filterset_deciding.proofs.{Asking.all_more, Doubts.contains_mapped}
 use Rattle.filterset_deciding.proofs.listed.LaidQuestion.find_in_groups.Goals as goal
 
 pub loop-group-preserved : goal.loop-group-preserved

@@ -1,5 +1,4 @@
-use Rattle.std.proofs.Common.{◌∙◌, refl}
-use Rattle.std.proofs.lemmas.Result.{IfOk-weaker}
+use Rattle.std.proofs.{Common.◌∙◌, Common.refl, lemmas.Result.IfOk-weaker}
 use Rattle.filterset_documents.proofs.BecomingLemmas.{lines_are, texts_are}
 use Rattle.filterset_documents.proofs.content.Filtersets.entries.Goals as goal
 

@@ -1,8 +1,7 @@
 use Rattle.std.proofs.Common.{◌∙◌, ap, refl, subst, sym}
 use Rattle.filterset_drawing.specs.declared.source.Source.{Source}
 use Rattle.filterset_editor.specs.Positions.{Text}
-use Rattle.filterset_configuration.specs.Places.{ArePlaces}
-use Rattle.filterset_configuration.specs.declared.places.Places.{Places}
+use Rattle.filterset_configuration.specs.{Places.ArePlaces, declared.places.Places.Places}
 use Rattle.filterset_sources.specs.Configurations.{configured_rows}
 use Rattle.filterset_documents.specs.Filtersets.{AreTextsOf}
 use Rattle.filterset_documents.proofs.content.OpenDocument.read.Goals as goal

@@ -2,8 +2,7 @@ use Rattle.std.proofs.Common.{◌≡◌, ◌-◌, ◌∙◌, drop, rules, true, 
 use Rattle.std.specs.List.Sorted.{IsPartitionPoint, IsPartitionedBy}
 use Rattle.std.proofs.lemmas.List.Sorted.{IsPartitionPoint-from_clause, IsPartitionedBy-leb}
 use Rattle.filterset_drawing.specs.Cutting.{line_row, lines_of, reaches}
-use Rattle.filterset_drawing.specs.Lines.{AreMet}
-use Rattle.filterset_drawing.specs.declared.line.Line.{Line}
+use Rattle.filterset_drawing.specs.{Lines.AreMet, declared.line.Line.Line}
 use Rattle.filterset_drawing.proofs.MetLemmas.{ends-part, met-between, starts-rise}
 use Rattle.filterset_drawing.proofs.source.Source.met_lines.Goals as goal
 

@@ -1,15 +1,11 @@
 use Rattle.std.proofs.Common.{◌≡◌, Some, String, codes, inl, refl, rules, string_bytes, subst, sym}
 use Rattle.std.proofs.lemmas.Result.{IfOk-weaker}
-use Rattle.std.specs.Result.{IfOk}
-use Rattle.std.specs.declared.alloc.Global.{Global}
-use Rattle.serde_json.specs.Data.{Data, null}
-use Rattle.serde_json.specs.View.{view}
+use Rattle.std.specs.{Result.IfOk, declared.alloc.Global.Global}
+use Rattle.serde_json.specs.{Data.Data, Data.null, View.view}
 use Rattle.serde_json.specs.declared.value.Value.{Null, the_lemmas}
 use Rattle.filterset_editor.specs.Machine.{error_data, invalid_request, parse_error, state_of}
-use Rattle.filterset_editor.specs.Refusals.{AnswersOrRunsOut}
-use Rattle.filterset_editor.specs.Written.{Writes}
-use Rattle.filterset_editor.specs.declared.message.Incoming.{Incoming}
-use Rattle.filterset_editor.specs.declared.message.Incoming.TheVariants.{NotJson, NotMessage}
+use Rattle.filterset_editor.specs.{Refusals.AnswersOrRunsOut, Written.Writes}
+use Rattle.filterset_editor.specs.declared.message.Incoming.{Incoming, TheVariants.NotJson, TheVariants.NotMessage}
 use Rattle.filterset_editor.proofs.server.Server.answer.Goals as goal
 
 null-view : view Null ≡ null

@@ -1,7 +1,5 @@
-use Rattle.std.proofs.Common.{◌≡◌, ◌↔◌, Bool, Some, None}
-use Rattle.std.proofs.lemmas.Result.{IfOk-weaker}
-use Rattle.filterset_expression.specs.Contexts.{default_of}
-use Rattle.filterset_expression.specs.Expression.{IsDefinite, IsUndecided}
+use Rattle.std.proofs.{Common.◌≡◌, Common.◌↔◌, Common.Bool, Common.Some, Common.None, lemmas.Result.IfOk-weaker}
+use Rattle.filterset_expression.specs.{Contexts.default_of, Expression.IsDefinite, Expression.IsUndecided}
 use Rattle.filterset_expression.proofs.expression.CompiledExpr.matches_binary.Goals as goal
 
 pub returns-clause-definite : goal.returns-clause-definite

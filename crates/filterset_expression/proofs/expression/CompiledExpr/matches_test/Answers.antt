@@ -1,6 +1,5 @@
-use Rattle.std.proofs.Common.{◌≡◌, ◌↔◌, Bool}
+use Rattle.std.proofs.{Common.◌≡◌, Common.◌↔◌, Common.Bool, lemmas.Result.IfOk-weaker}
 use Rattle.std.specs.Bool.{IsTrue}
-use Rattle.std.proofs.lemmas.Result.{IfOk-weaker}
 use Rattle.filterset_expression.specs.Contexts.{default_of}
 use Rattle.filterset_expression.specs.Expression.{no_groups, Holds, IsDefinite}
 use Rattle.filterset_expression.proofs.FlatSteps.{no_group_step}

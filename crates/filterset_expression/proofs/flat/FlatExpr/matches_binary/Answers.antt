@@ -6,15 +6,12 @@ use Rattle.filterset_grammar.specs.Tree.{Tree}
 use Rattle.filterset_expression.specs.BinaryMeaning.{IsDefiniteTree, IsUndecidedTree}
 use Rattle.filterset_expression.specs.Expression.{CompiledLeaf, compiled_leaf, is_of_test, with_default, HoldsOfBinary, IsDefinite, IsUndecided}
 use Rattle.filterset_expression.specs.FlatExpressions.{IsFlat, IsFlatOfTree, IsTold}
-use Rattle.filterset_expression.specs.Folds.{Folds, Settles}
-use Rattle.filterset_expression.specs.Formula.{Formula}
+use Rattle.filterset_expression.specs.{Folds.Folds, Folds.Settles, Formula.Formula}
 use Rattle.filterset_expression.specs.Connectives.{Decides, kleene_not, kleene}
-use Rattle.filterset_expression.specs.declared.expression.CompiledExpr.{CompiledExpr}
-use Rattle.filterset_expression.specs.declared.flat.asked.AskedLeaf.{AskedLeaf}
+use Rattle.filterset_expression.specs.declared.{expression.CompiledExpr.CompiledExpr, flat.asked.AskedLeaf.AskedLeaf}
 use Rattle.filterset_expression.specs.declared.query.BinaryQuery.{BinaryQuery}
 use Rattle.filterset_expression.proofs.BinaryMeanings.{compiled_definite, compiled_undecided}
-use Rattle.filterset_expression.proofs.Exact.{fold_definite, fold_open}
-use Rattle.filterset_expression.proofs.Folding.{folds_more}
+use Rattle.filterset_expression.proofs.{Exact.fold_definite, Exact.fold_open, Folding.folds_more}
 use Rattle.filterset_expression.proofs.flat.FlatExpr.matches_binary.Goals as goal
 
 -- what a run of the steps folds

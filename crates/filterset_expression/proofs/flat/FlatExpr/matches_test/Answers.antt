@@ -7,11 +7,9 @@ use Rattle.filterset_grammar.specs.Tree.{Tree}
 use Rattle.filterset_expression.specs.Expression.{no_groups, compiled_leaf, with_default, HoldsOfTest, Holds, IsDefinite}
 use Rattle.filterset_expression.specs.FlatExpressions.{IsFlat, IsFlatOfTree}
 use Rattle.filterset_expression.specs.Connectives.{Decides, connected}
-use Rattle.filterset_expression.specs.Meaning.{Meaning}
-use Rattle.filterset_expression.specs.declared.expression.CompiledExpr.{CompiledExpr}
+use Rattle.filterset_expression.specs.{Meaning.Meaning, declared.expression.CompiledExpr.CompiledExpr}
 use Rattle.filterset_expression.proofs.Folding.{folds_more, fold_decides}
-use Rattle.filterset_expression.proofs.LeafAnswers.{definite_of_test}
-use Rattle.filterset_expression.proofs.Meanings.{compiled_means}
+use Rattle.filterset_expression.proofs.{LeafAnswers.definite_of_test, Meanings.compiled_means}
 use Rattle.filterset_expression.proofs.flat.FlatExpr.matches_test.Goals as goal
 
 pub returns-clause-holds : goal.returns-clause-holds

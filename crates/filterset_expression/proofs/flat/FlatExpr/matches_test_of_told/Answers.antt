@@ -1,8 +1,6 @@
 use Rattle.std.proofs.Common.{Some}
-use Rattle.filterset_expression.specs.Expression.{with_default}
-use Rattle.filterset_expression.specs.FlatExpressions.{IsTold}
-use Rattle.filterset_expression.proofs.LeafAnswers.{told_of_test}
-use Rattle.filterset_expression.proofs.Meanings.{compiled_means}
+use Rattle.filterset_expression.specs.{Expression.with_default, FlatExpressions.IsTold}
+use Rattle.filterset_expression.proofs.{LeafAnswers.told_of_test, Meanings.compiled_means}
 use Rattle.filterset_expression.proofs.flat.FlatExpr.matches_test_of_told.Goals as goal
 
 pub returns-in-Some-clause-holds : goal.returns-in-Some-clause-holds

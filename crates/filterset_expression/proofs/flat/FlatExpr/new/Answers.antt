@@ -1,6 +1,5 @@
 use Rattle.std.proofs.Common.{◌≡◌}
-use Rattle.filterset_expression.specs.Contexts.{default_of}
-use Rattle.filterset_expression.specs.Expression.{with_default}
+use Rattle.filterset_expression.specs.{Contexts.default_of, Expression.with_default}
 use Rattle.filterset_expression.specs.FlatSteps.{steps_of, postfix}
 use Rattle.filterset_expression.proofs.FlatSteps.{made_steps, postfix_runs, no_default_step}
 use Rattle.filterset_expression.proofs.Passing.{are_passed}

@@ -1,10 +1,7 @@
-use Rattle.std.proofs.Common.{◌≡◌, Result, Ok, Err, refl}
+use Rattle.std.proofs.{Common.◌≡◌, Common.Result, Common.Ok, Common.Err, Common.refl, lemmas.Result.IfOk-weaker}
 use Rattle.std.specs.Result.{IfOk}
-use Rattle.std.proofs.lemmas.Result.{IfOk-weaker}
-use Rattle.filterset_expression.specs.declared.flat.asked.AskedLeaf.{AskedLeaf}
-use Rattle.filterset_expression.specs.Connectives.{Decides}
-use Rattle.filterset_expression.specs.Expression.{CompiledLeaf, compiled_leaf}
-use Rattle.filterset_expression.specs.FlatExpressions.{flat_steps}
+use Rattle.filterset_expression.specs.{declared.flat.asked.AskedLeaf.AskedLeaf, Connectives.Decides}
+use Rattle.filterset_expression.specs.{Expression.CompiledLeaf, Expression.compiled_leaf, FlatExpressions.flat_steps}
 use Rattle.filterset_expression.proofs.Decoding.{leaf_folds}
 use Rattle.filterset_expression.proofs.flat.FlatExpr.run.Goals as goal
 

@@ -1,14 +1,13 @@
 use Rattle.std.proofs.Common.{◌≡◌, ◌≤◌, ◌+◌, refl, sym, ◌∙◌, ap, [], ◌∷◌, drop, length, Ok, arith}
 use Rattle.std.proofs.Math.Seq.{drop-length}
-use Rattle.filterset_expression.specs.declared.flat.asked.AskedLeaf.{AskedLeaf}
-use Rattle.filterset_expression.specs.Connectives.{Decides}
+use Rattle.filterset_expression.specs.{declared.flat.asked.AskedLeaf.AskedLeaf, Connectives.Decides}
 use Rattle.filterset_expression.specs.Expression.{CompiledLeaf, compiled_leaf}
 use Rattle.filterset_expression.specs.Running.{height_after, step_of_action}
 use Rattle.filterset_expression.specs.FlatSteps.{step_of, steps_of}
 use Rattle.filterset_expression.proofs.FlatSteps.{steps_from, leaves_one_on, greatest_on, greatest_above, one_to_negate, two_to_combine, one_at_end}
 use Rattle.filterset_expression.proofs.Decoding.{Stands, push_stands, negate_stands, combine_stands, stands_last, stands_first}
-use Rattle.filterset_expression.proofs.flat.FlatExpr.run_on.Goals as goal
 use Rattle.filterset_expression.proofs.flat.FlatExpr.run_on.Goals.{in-Push+in_ok-value-in-Push, in-Negate, in-Combine}
+use Rattle.filterset_expression.proofs.flat.FlatExpr.run_on.Goals as goal
 
 pub push-requires : goal.push-requires
 push-requires g c =

@@ -1,18 +1,14 @@
 use Rattle.std.proofs.Common.{◌≡◌, ◌≤◌, ◌+◌, ◌-◌, refl, sym, ◌∙◌, ap, [], ◌∷◌, drop, length, Ok, arith}
-use Rattle.std.proofs.lemmas.List.{drop-map, drop-drop, length-map}
-use Rattle.std.proofs.Math.Seq.{drop-length}
-use Rattle.filterset_expression.specs.declared.flat.asked.AskedLeaf.{AskedLeaf}
-use Rattle.filterset_expression.specs.Connectives.{Decides}
+use Rattle.std.proofs.{lemmas.List.drop-map, lemmas.List.drop-drop, lemmas.List.length-map, Math.Seq.drop-length}
+use Rattle.filterset_expression.specs.{declared.flat.asked.AskedLeaf.AskedLeaf, Connectives.Decides}
 use Rattle.filterset_expression.specs.Expression.{CompiledLeaf, compiled_leaf}
-use Rattle.filterset_expression.specs.FlatExpressions.{flat_steps}
-use Rattle.filterset_expression.specs.FlatSteps.{step_of, steps_of}
-use Rattle.filterset_expression.specs.Passing.{Advances}
-use Rattle.filterset_expression.specs.Running.{height_after, step_of_action}
+use Rattle.filterset_expression.specs.{FlatExpressions.flat_steps, FlatSteps.step_of, FlatSteps.steps_of}
+use Rattle.filterset_expression.specs.{Passing.Advances, Running.height_after, Running.step_of_action}
 use Rattle.filterset_expression.proofs.Decoding.{Stands, advance_ready, push_stands, negate_stands, combine_stands, stands_last, stands_first}
 use Rattle.filterset_expression.proofs.FlatSteps.{steps_from, leaves_one_on, greatest_on, greatest_above, one_to_negate, two_to_combine, one_at_end}
 use Rattle.filterset_expression.proofs.Passing.{advance_within, advances_some}
-use Rattle.filterset_expression.proofs.flat.FlatExpr.run_passing.Goals as goal
 use Rattle.filterset_expression.proofs.flat.FlatExpr.run_passing.Goals.{in-Push+in_ok-value-in-Push, in-Negate, in-Combine}
+use Rattle.filterset_expression.proofs.flat.FlatExpr.run_passing.Goals as goal
 
 pub push-requires : goal.push-requires
 push-requires g c =

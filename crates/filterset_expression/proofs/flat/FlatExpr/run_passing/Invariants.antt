@@ -1,7 +1,5 @@
 use Rattle.std.proofs.Common.{◌≡◌, ◌≤◌, ◌-◌, true, Ok, drop, length}
-use Rattle.filterset_expression.specs.Connectives.{Decides}
-use Rattle.filterset_expression.specs.Expression.{compiled_leaf}
-use Rattle.filterset_expression.specs.FlatSteps.{steps_of}
+use Rattle.filterset_expression.specs.{Connectives.Decides, Expression.compiled_leaf, FlatSteps.steps_of}
 use Rattle.filterset_expression.specs.Running.{leaves_one, greatest_height}
 use Rattle.filterset_expression.specs.declared.flat.asked.AskedLeaf.{AskedLeaf}
 use Rattle.filterset_expression.proofs.Decoding.{Stands}

@@ -1,7 +1,6 @@
 use Rattle.std.proofs.Common.{◌≡◌, ◌+◌, suc, inr, refl, arith, drop, subst}
 use Rattle.std.proofs.lemmas.List.{length-map}
-use Rattle.filterset_expression.specs.FlatExpressions.{flat_steps}
-use Rattle.filterset_expression.specs.FlatSteps.{step_of}
+use Rattle.filterset_expression.specs.{FlatExpressions.flat_steps, FlatSteps.step_of}
 use Rattle.filterset_expression.specs.Passing.{IsRightOperand, IsPassedOver}
 use Rattle.filterset_expression.proofs.Passing.{passed_at, right_within}
 use Rattle.filterset_expression.proofs.flat.FlatExpr.steps_after.Goals as goal

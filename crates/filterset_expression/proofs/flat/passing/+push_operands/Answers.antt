@@ -1,11 +1,9 @@
 use Rattle.std.proofs.Common.{◌≡◌, List, Option, ◌+◌, ◌-◌, ◌∙◌, ap, arith, length-append, [], ◌∷◌, ◌++◌, length}
 use Rattle.std.proofs.lemmas.Result.{on_ok_weaker}
-use Rattle.filterset_expression.specs.Connectives.{Conjunction, Disjunction, ExclusiveDisjunction}
-use Rattle.filterset_expression.specs.Expression.{with_default}
+use Rattle.filterset_expression.specs.Connectives.{Conjunction, Disjunction, ExclusiveDisjunction, Connective}
+use Rattle.filterset_expression.specs.Expression.{with_default, CompiledLeaf}
 use Rattle.filterset_expression.specs.FlatSteps.{Negate, Combine, postfix}
 use Rattle.filterset_expression.proofs.Passing.{right_passed, of_compound, of_negation, pushed}
-use Rattle.filterset_expression.specs.Connectives.{Connective}
-use Rattle.filterset_expression.specs.Expression.{CompiledLeaf}
 use Rattle.filterset_expression.specs.Formula.{Formula, Negation, Compound}
 use Rattle.filterset_expression.specs.declared.flat.passing.RightOperand.{RightOperand}
 use Rattle.filterset_expression.proofs.flat.passing.+push_operands.Goals as goal

@@ -1,11 +1,10 @@
 use Rattle.std.proofs.Common.{◌≡◌, ap, subst, sym, ◌∙◌, [], length, reverse, refl, arith}
 use Rattle.std.proofs.lemmas.List.{append-nil}
 use Rattle.filterset_expression.specs.Expression.{formula, with_default}
-use Rattle.filterset_expression.specs.FlatSteps.{postfix}
-use Rattle.filterset_expression.specs.Passing.{ArePassedOver}
+use Rattle.filterset_expression.specs.{FlatSteps.postfix, Passing.ArePassedOver}
+use Rattle.filterset_expression.proofs.Passing.{own_default}
 use Rattle.filterset_expression.specs.declared.expression.CompiledExpr.TheBlock as variant
 use Rattle.filterset_expression.specs.declared.leaves.FiltersetLeaf.TheVariants as leaf
-use Rattle.filterset_expression.proofs.Passing.{own_default}
 use Rattle.filterset_expression.proofs.flat.passing.list_right_operands.Goals as goal
 
 pub returns : goal.returns

@@ -1,9 +1,8 @@
 use Rattle.std.proofs.Common.{ap, ◌∙◌, ◌++◌}
-use Rattle.filterset_expression.specs.Expression.{formula}
-use Rattle.filterset_expression.specs.FlatSteps.{postfix}
+use Rattle.filterset_expression.specs.{Expression.formula, FlatSteps.postfix}
 use Rattle.filterset_expression.proofs.Passing.{some_steps, default_spliced}
-use Rattle.filterset_expression.proofs.flat.passing.push_leaf.Goals as goal
 use Rattle.filterset_expression.proofs.flat.passing.push_leaf.Goals.{in-Some+in_ok-push-in-Default+in_ok-extend_from_slice-in-Default, in_default-split_first}
+use Rattle.filterset_expression.proofs.flat.passing.push_leaf.Goals as goal
 
 pub returns-after-split_first-clause-passed : goal.returns-after-split_first-clause-passed
 returns-after-split_first-clause-passed c = λ default rest e d r l. rw c.in-Default.is (elim c.match-split_first.branch [

@@ -1,10 +1,8 @@
 use Rattle.std.proofs.Common.{refl}
 use Rattle.filterset_expression.specs.Connectives.{Conjunction, Disjunction, ExclusiveDisjunction}
-use Rattle.filterset_expression.specs.Expression.{formula}
-use Rattle.filterset_expression.specs.FlatSteps.{steps_of}
-use Rattle.filterset_expression.specs.Running.{leaf_or}
-use Rattle.filterset_expression.specs.declared.flat.steps.FlatStep.TheVariants as step
+use Rattle.filterset_expression.specs.{Expression.formula, FlatSteps.steps_of, Running.leaf_or}
 use Rattle.filterset_expression.proofs.FlatSteps.{negated_steps, combined_steps}
+use Rattle.filterset_expression.specs.declared.flat.steps.FlatStep.TheVariants as step
 use Rattle.filterset_expression.proofs.flat.steps.+push_steps.Goals as goal
 
 pub returns-in_ok-push-in-Not : goal.returns-in_ok-push-in-Not

@@ -1,6 +1,5 @@
 use Rattle.std.proofs.Common.{◌≡◌, ◌≤◌, max, true, drop, length}
-use Rattle.filterset_expression.specs.Running.{leaves_one, greatest_height}
-use Rattle.filterset_expression.specs.FlatSteps.{steps_of}
+use Rattle.filterset_expression.specs.{Running.leaves_one, Running.greatest_height, FlatSteps.steps_of}
 use Rattle.filterset_expression.proofs.flat.steps.height_of.Given as goal
 
 abbrev pub invariant-loop-step : goal.invariant-loop-step

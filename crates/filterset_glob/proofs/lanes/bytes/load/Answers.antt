@@ -1,5 +1,4 @@
-use Rattle.std.proofs.Common.{◌*◌, get_or, ap, ◌∙◌}
-use Rattle.std.proofs.lemmas.Simd.{get_or-chunk}
+use Rattle.std.proofs.{Common.◌*◌, Common.get_or, Common.ap, Common.◌∙◌, lemmas.Simd.get_or-chunk}
 use Rattle.filterset_glob.proofs.lanes.bytes.load.Goals as goal
 use Rattle.filterset_glob.proofs.lanes.bytes.load.Goals.{then-block-bytes, else-block-bytes}
 

@@ -1,5 +1,4 @@
-use Rattle.std.proofs.Common.{get_or, ap, zero-add, ◌∙◌}
-use Rattle.std.proofs.lemmas.Simd.{get_or-chunk}
+use Rattle.std.proofs.{Common.get_or, Common.ap, Common.zero-add, Common.◌∙◌, lemmas.Simd.get_or-chunk}
 use Rattle.filterset_glob.proofs.lanes.bytes.load_first.Goals as goal
 use Rattle.filterset_glob.proofs.lanes.bytes.load_first.Goals.{then-bytes-ge64, else-bytes-ge64}
 

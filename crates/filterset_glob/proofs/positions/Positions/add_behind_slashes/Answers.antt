@@ -1,9 +1,8 @@
 use Rattle.std.proofs.Common.{◌≡◌, ℕ, ◌+◌, ◌-◌, ◌<◌, ◌≤◌, ◌⊎◌, inl, inr, Bool, true, length, get_or, ap, sym, subst, ◌∙◌, arith, ⊎_elim, refl}
 use Rattle.std.proofs.lemmas.Bool.{cases_lt, cases_eq}
-use Rattle.filterset_glob.specs.Positions.{Holds}
-use Rattle.filterset_glob.specs.Matching.{slash}
-use Rattle.filterset_glob.proofs.positions.Positions.add_behind_slashes.Goals as goal
+use Rattle.filterset_glob.specs.{Positions.Holds, Matching.slash}
 use Rattle.filterset_glob.proofs.positions.Positions.add_behind_slashes.Goals.{then-reached, else-reached, then-reached-2+then-number, else-reached-2, else-reached-2-via-then-reached-2+else-number, else-reached-2-via-else-reached-2}
+use Rattle.filterset_glob.proofs.positions.Positions.add_behind_slashes.Goals as goal
 
 pub loop-position-preserved : goal.loop-position-preserved
 loop-position-preserved c =

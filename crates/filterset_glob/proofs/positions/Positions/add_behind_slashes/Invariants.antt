@@ -1,6 +1,5 @@
 use Rattle.std.proofs.Common.{◌≡◌, ℕ, ◌+◌, ◌≤◌, ◌<◌, ◌⊎◌, true, length, slice_index}
-use Rattle.filterset_glob.specs.Positions.{Holds}
-use Rattle.filterset_glob.specs.Matching.{slash}
+use Rattle.filterset_glob.specs.{Positions.Holds, Matching.slash}
 use Rattle.filterset_glob.proofs.positions.Positions.add_behind_slashes.Given as goal
 
 abbrev pub invariant-loop-position : goal.invariant-loop-position

@@ -1,8 +1,6 @@
 use Rattle.std.proofs.Common.{◌≡◌, ℕ, ◌+◌, ◌-◌, ◌/◌, ◌<◌, ◌≤◌, ◌∷◌, true, false, length, ap, sym, ◌∙◌, arith, ⊎_elim}
-use Rattle.std.specs.Int.{bit_at}
-use Rattle.std.specs.Vec.{with_items}
-use Rattle.std.proofs.lemmas.Bool.{cases_lt}
-use Rattle.std.proofs.lemmas.List.{with_items_is}
+use Rattle.std.specs.{Int.bit_at, Vec.with_items}
+use Rattle.std.proofs.lemmas.{Bool.cases_lt, List.with_items_is}
 use Rattle.filterset_glob.specs.Positions.{Holds}
 use Rattle.filterset_glob.proofs.PositionSets.{opened, made, long, length-positions_of, Has-low, Has-high, Has-cases}
 use Rattle.filterset_glob.proofs.positions.Positions.fill.Goals as goal

@@ -1,8 +1,6 @@
 use Rattle.std.proofs.Common.{◌≡◌, ◌≢◌, ℕ, ◌+◌, ◌-◌, ◌/◌, ◌%◌, ◌<◌, ◌⊎◌, inl, inr, List, ◌∷◌, length, get_or, ap, sym, ◌∙◌, arith, ⊎_elim}
 use Rattle.std.specs.Int.{bit_at}
-use Rattle.std.proofs.lemmas.Bool.{cases_eq}
-use Rattle.std.proofs.lemmas.Grind.{get_or_default_zero}
-use Rattle.std.proofs.Math.ListN.{set}
+use Rattle.std.proofs.{lemmas.Bool.cases_eq, lemmas.Grind.get_or_default_zero, Math.ListN.set}
 use Rattle.filterset_glob.specs.Words.{Has}
 use Rattle.filterset_glob.proofs.PositionSets.{opened, long, length-positions_of, Has-low, Has-high, Has-cases, Has-word, Has-set_same, Has-set_other, Has-from_Holds, Holds-from_Has}
 use Rattle.filterset_glob.proofs.positions.Positions.hold.Goals as goal

@@ -1,13 +1,9 @@
 use Rattle.std.proofs.Common.{◌≡◌, ℕ, ◌+◌, inl, true, ◌∷◌, length, take, refl, ap, sym, ◌∙◌, arith, eqb-true, ⊎_elim, rules}
 use Rattle.std.specs.Int.{bit_at}
 use Rattle.std.proofs.lemmas.Nat.Bits.{bit_at-zero}
-use Rattle.filterset_glob.specs.Positions.{Holds}
-use Rattle.filterset_glob.specs.Words.{Has}
-use Rattle.filterset_glob.specs.Matching.{Matches}
-use Rattle.filterset_glob.specs.Tokens.{token_of, tokens_of}
+use Rattle.filterset_glob.specs.{Positions.Holds, Words.Has, Matching.Matches, Tokens.token_of, Tokens.tokens_of}
 use Rattle.filterset_glob.proofs.PositionSets.{opened, long, length-positions_of, Has-low, Has-cases, Has-within, Has-from_Holds}
-use Rattle.filterset_glob.proofs.Passing.{moves_nowhere}
-use Rattle.filterset_glob.proofs.Runs.{first_of_some, moves_alone, moves_stopped}
+use Rattle.filterset_glob.proofs.{Passing.moves_nowhere, Runs.first_of_some, Runs.moves_alone, Runs.moves_stopped}
 use Rattle.filterset_glob.proofs.positions.Positions.run_over.Goals.{else-not-is_empty-via-then-not-is_empty+else-not-are_none, else-not-is_empty-via-else-not-is_empty}
 use Rattle.filterset_glob.proofs.positions.Positions.run_over.Goals as goal
 

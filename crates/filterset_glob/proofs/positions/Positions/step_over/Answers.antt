@@ -1,12 +1,7 @@
 use Rattle.std.proofs.Common.{◌≡◌, ℕ, ◌+◌, ◌-◌, ◌/◌, ◌<◌, ◌∷◌, length, get_or, ap, sym, subst, ◌∙◌, arith, ⊎_elim, refl}
-use Rattle.std.specs.Int.{bit_at}
-use Rattle.std.specs.Vec.{with_items}
-use Rattle.std.proofs.lemmas.Bool.{cases_lt, cases_eq}
-use Rattle.std.proofs.lemmas.List.{with_items_is}
-use Rattle.filterset_glob.specs.Positions.{Holds}
-use Rattle.filterset_glob.specs.Words.{Has}
-use Rattle.filterset_glob.specs.Matching.{Admits}
-use Rattle.filterset_glob.specs.Tokens.{token_of}
+use Rattle.std.specs.{Int.bit_at, Vec.with_items}
+use Rattle.std.proofs.lemmas.{Bool.cases_lt, Bool.cases_eq, List.with_items_is}
+use Rattle.filterset_glob.specs.{Positions.Holds, Words.Has, Matching.Admits, Tokens.token_of}
 use Rattle.filterset_glob.proofs.PositionSets.{opened, made, long, length-positions_of, Has-low, Has-high, Has-cases}
 use Rattle.filterset_glob.proofs.positions.Positions.step_over.Goals as goal
 

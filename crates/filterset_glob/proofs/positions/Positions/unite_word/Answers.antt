@@ -1,6 +1,5 @@
 use Rattle.std.proofs.Common.{◌≡◌, ◌↔◌, ◌⊎◌, List, Bool, [], ◌∷◌, length, sym, subst, arith}
-use Rattle.filterset_glob.specs.Positions.{Holds}
-use Rattle.filterset_glob.specs.Words.{positions_of}
+use Rattle.filterset_glob.specs.{Positions.Holds, Words.positions_of}
 use Rattle.filterset_glob.proofs.PositionSets.{joined_words, long, word_is}
 use Rattle.filterset_glob.proofs.positions.Positions.unite_word.Goals as goal
 

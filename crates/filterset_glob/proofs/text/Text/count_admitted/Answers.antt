@@ -1,7 +1,6 @@
 use Rattle.std.proofs.Common.{◌≡◌, ℕ, ◌+◌, true, List, [], ◌∷◌, ◌++◌, get_or, take, drop, sym, ap, subst, ◌∙◌, arith, length-drop, rules}
 use Rattle.std.proofs.lemmas.List.{take_more, get_or-drop}
-use Rattle.filterset_glob.specs.Matching.{Admits, Matches}
-use Rattle.filterset_glob.specs.Tokens.{token_of, tokens_of}
+use Rattle.filterset_glob.specs.{Matching.Admits, Matching.Matches, Tokens.token_of, Tokens.tokens_of}
 use Rattle.filterset_glob.proofs.Runs.{run_more, run_each}
 use Rattle.filterset_glob.proofs.text.Text.count_admitted.Goals as goal
 

@@ -1,6 +1,5 @@
 use Rattle.std.proofs.Common.{◌≡◌, ℕ, List, length, take, drop}
-use Rattle.filterset_glob.specs.Matching.{Matches}
-use Rattle.filterset_glob.specs.Tokens.{tokens_of}
+use Rattle.filterset_glob.specs.{Matching.Matches, Tokens.tokens_of}
 use Rattle.filterset_glob.proofs.text.Text.count_admitted.Given as goal
 
 abbrev pub invariant-loop-at : goal.invariant-loop-at

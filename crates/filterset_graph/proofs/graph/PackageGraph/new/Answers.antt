@@ -1,9 +1,7 @@
 use Rattle.std.proofs.Common.{◌≡◌, length, arith, ap}
-use Rattle.filterset_graph.specs.Packages.{ids}
-use Rattle.filterset_graph.specs.Index.{PositionsAre, AreRows, IsReversed}
+use Rattle.filterset_graph.specs.{Packages.ids, Index.PositionsAre, Index.AreRows, Index.IsReversed}
 use Rattle.filterset_graph.specs.Refusals.{IsRefusalOf}
-use Rattle.filterset_graph.proofs.Paths.{rows_stay_below}
-use Rattle.filterset_graph.proofs.Rows.{PositionsAre-AllDiffer, LinksKnown-from_rows}
+use Rattle.filterset_graph.proofs.{Paths.rows_stay_below, Rows.PositionsAre-AllDiffer, Rows.LinksKnown-from_rows}
 use Rattle.filterset_graph.proofs.Refused.{handed_on, IsTrueOf-from_ids, IsTrueOf-from_links}
 use Rattle.filterset_graph.proofs.graph.PackageGraph.new.Goals as goal
 

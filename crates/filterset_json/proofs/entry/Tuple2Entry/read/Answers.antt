@@ -1,11 +1,9 @@
 use Rattle.std.proofs.Common.{rules, ◌≡◌}
-use Rattle.serde_json.specs.Data.{item, no_items}
-use Rattle.serde_json.specs.View.{items_view, view}
+use Rattle.serde_json.specs.{Data.item, Data.no_items, View.items_view, View.view}
 use Rattle.filterset_json.specs.Shape.{IsPair}
-use Rattle.filterset_json.proofs.RefusalLemmas.{Refuses-not}
-use Rattle.filterset_json.proofs.ShapeLemmas.{two_items}
-use Rattle.filterset_json.proofs.entry.Tuple2Entry.read.Goals as goal
+use Rattle.filterset_json.proofs.{RefusalLemmas.Refuses-not, ShapeLemmas.two_items}
 use Rattle.filterset_json.proofs.entry.Tuple2Entry.read.Goals.{in_default-via-then-branch-lt2, in_default-via-else-branch-lt2+else-this-lt3}
+use Rattle.filterset_json.proofs.entry.Tuple2Entry.read.Goals as goal
 
 -- a list of another length is none of 2 items
 pub returns-in_default-clause-refused : goal.returns-in_default-clause-refused

@@ -1,11 +1,9 @@
 use Rattle.std.proofs.Common.{rules, ◌≡◌}
-use Rattle.serde_json.specs.Data.{item, no_items}
-use Rattle.serde_json.specs.View.{items_view, view}
+use Rattle.serde_json.specs.{Data.item, Data.no_items, View.items_view, View.view}
 use Rattle.filterset_json.specs.Shape.{IsTriple}
-use Rattle.filterset_json.proofs.RefusalLemmas.{Refuses-not}
-use Rattle.filterset_json.proofs.ShapeLemmas.{three_items}
-use Rattle.filterset_json.proofs.entry.Tuple3Entry.read.Goals as goal
+use Rattle.filterset_json.proofs.{RefusalLemmas.Refuses-not, ShapeLemmas.three_items}
 use Rattle.filterset_json.proofs.entry.Tuple3Entry.read.Goals.{in_default-via-then-branch-lt3, in_default-via-else-branch-lt3+else-this-lt4}
+use Rattle.filterset_json.proofs.entry.Tuple3Entry.read.Goals as goal
 
 -- a list of another length is none of 3 items
 pub returns-in_default-clause-refused : goal.returns-in_default-clause-refused

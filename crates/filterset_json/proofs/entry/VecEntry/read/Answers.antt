@@ -1,11 +1,8 @@
 use Rattle.std.proofs.Common.{rules, arith, map, string_bytes, subst, sym, ◌+◌, ◌<◌, ◌≡◌, length, get_or, ◌++◌, ◌∷◌, [], take, ◌∙◌, ap}
-use Rattle.std.proofs.lemmas.List.{map-append, take_more}
-use Rattle.std.proofs.lemmas.Result.{err_from_is_err_and}
+use Rattle.std.proofs.lemmas.{List.map-append, List.take_more, Result.err_from_is_err_and}
 use Rattle.serde_json.specs.View.{items_view, view}
 use Rattle.filterset_json.specs.Shape.{Each, IsListOf}
-use Rattle.filterset_json.specs.Paths.{step_text}
-use Rattle.filterset_json.specs.Places.{After}
-use Rattle.filterset_json.specs.declared.path.Step.TheVariants.{Item}
+use Rattle.filterset_json.specs.{Paths.step_text, Places.After, declared.path.Step.TheVariants.Item}
 use Rattle.filterset_json.proofs.RefusalLemmas.{handed_on}
 use Rattle.filterset_json.proofs.ShapeLemmas.{Each-at, Each-push, WrongItem-at}
 use Rattle.filterset_json.proofs.entry.VecEntry.read.Goals as goal

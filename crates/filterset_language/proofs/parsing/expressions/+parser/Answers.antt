@@ -1,10 +1,7 @@
 use Rattle.std.proofs.Common.{◌≡◌, suc, ◌<◌, ◌≤◌, length, true, sym, refl, ap, ◌∙◌, arith}
-use Rattle.std.specs.Prelude.{codes, is_some}
-use Rattle.std.specs.Option.{option_map}
+use Rattle.std.specs.{Prelude.codes, Prelude.is_some, Option.option_map}
 use Rattle.filterset_language.specs.Parsing.Position.{Position, position_of, skip, after}
-use Rattle.filterset_language.specs.Parsing.Recovery.{NoOperand}
-use Rattle.filterset_grammar.specs.Patterns.{PatternsAreRead}
-use Rattle.filterset_language.specs.Parsed.{LiesOnBody}
+use Rattle.filterset_language.specs.{Parsing.Recovery.NoOperand, Parsed.LiesOnBody}
 use Rattle.filterset_language.specs.Parsing.Descent.{boxed_tree, operand_at, and_level_by, join, unite}
 use Rattle.filterset_language.specs.Parsing.Words.{joiner_at, or_at}
 use Rattle.filterset_language.proofs.Positions.{AtOrBehind-then, AtOrBehind-of, same_position}
@@ -13,6 +10,7 @@ use Rattle.filterset_language.proofs.Recovering.{if_ok, keeps_along, keeps_then}
 use Rattle.filterset_language.proofs.Outcomes.{gives_as}
 use Rattle.filterset_language.proofs.OperandReading.{tree_along, going_along, negation_gives, parens_gives, nothing_gives, and_misses, and_starts, and_turns, and_ends, or_starts, or_turns, or_level_ends}
 use Rattle.filterset_language.proofs.FaultsStand.{behind_not, behind_open, behind_joiner, behind_or, behind_name}
+use Rattle.filterset_grammar.specs.Patterns.{PatternsAreRead}
 use Rattle.filterset_language.proofs.parsing.expressions.+parser.Goals as goal
 
 pub read_operand-read_set-requires-clause-name : goal.read_operand-read_set-requires-clause-name

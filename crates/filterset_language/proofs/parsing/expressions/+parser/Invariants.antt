@@ -2,11 +2,9 @@ use Rattle.std.proofs.Common.{ℕ, suc, ◌≤◌, Option, length, ◌+◌, ◌*
 use Rattle.std.specs.Option.{option_map}
 use Rattle.filterset_language.specs.Parsing.Position.{Position, position_of, IsAtOrBehind}
 use Rattle.filterset_language.specs.Parsing.Descent.{Placed, boxed_tree, operand_at, and_level_by, join, unite}
-use Rattle.filterset_language.specs.Parsing.Words.{joiner_at, or_at}
+use Rattle.filterset_language.specs.{Parsing.Words.joiner_at, Parsing.Words.or_at, Parsed.LiesOnBody}
+use Rattle.filterset_language.specs.Parsing.{Recovery.Keeps, Outcome.Faults, Outcome.Going}
 use Rattle.filterset_grammar.specs.Patterns.{PatternsAreRead}
-use Rattle.filterset_language.specs.Parsed.{LiesOnBody}
-use Rattle.filterset_language.specs.Parsing.Recovery.{Keeps}
-use Rattle.filterset_language.specs.Parsing.Outcome.{Faults, Going}
 use Rattle.filterset_language.proofs.parsing.expressions.+parser.Given as goal
 
 abbrev pub decreases-read_parens : goal.decreases-read_parens

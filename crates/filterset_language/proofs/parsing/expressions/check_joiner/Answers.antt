@@ -1,8 +1,7 @@
 use Rattle.std.proofs.Common.{◌≡◌, Option, Some, None, ap, ◌∙◌, sym}
 use Rattle.filterset_language.specs.Parsing.Position.{position_of}
+use Rattle.filterset_language.proofs.{Recovering.reported, Recovering.option_none, FaultsStand.and_found}
 use Rattle.filterset_grammar.specs.declared.operators.Joiner.{Joiner}
-use Rattle.filterset_language.proofs.Recovering.{reported, option_none}
-use Rattle.filterset_language.proofs.FaultsStand.{and_found}
 use Rattle.filterset_language.proofs.parsing.expressions.check_joiner.Goals as goal
 
 pub returns-clause-stand : goal.returns-clause-stand

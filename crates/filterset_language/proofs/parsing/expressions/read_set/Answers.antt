@@ -1,10 +1,7 @@
 use Rattle.std.proofs.Common.{refl}
-use Rattle.filterset_language.specs.Parsing.Position.{position_of}
+use Rattle.filterset_language.specs.{Parsing.Position.position_of, Parsed.LiesOnBody, Parsing.Descent.leaf_at}
+use Rattle.filterset_language.proofs.{Matching.set_gives, Outcomes.gives_as}
 use Rattle.filterset_grammar.specs.Patterns.{PatternsAreRead}
-use Rattle.filterset_language.specs.Parsed.{LiesOnBody}
-use Rattle.filterset_language.specs.Parsing.Descent.{leaf_at}
-use Rattle.filterset_language.proofs.Matching.{set_gives}
-use Rattle.filterset_language.proofs.Outcomes.{gives_as}
 use Rattle.filterset_language.proofs.parsing.expressions.read_set.Goals as goal
 
 pub returns-clause-value : goal.returns-clause-value

@@ -1,8 +1,7 @@
 use Rattle.std.proofs.Common.{[], ◌∷◌, refl, arith}
 use Rattle.std.specs.Prelude.{string_bytes}
 use Rattle.std.proofs.lemmas.List.Elements.{All-cons, All-nil}
-use Rattle.filterset_matchers.specs.Matcher.{Regex}
-use Rattle.filterset_matchers.specs.Pattern.{MayBeRejected}
+use Rattle.filterset_matchers.specs.{Matcher.Regex, Pattern.MayBeRejected}
 use Rattle.filterset_language.specs.Parsing.Outcome.{refused, RefusesBody}
 use Rattle.filterset_faults.specs.declared.error.ParseSingleError.TheVariants.{InvalidRegexWithoutMessage}
 use Rattle.filterset_language.proofs.parsing.matchers.build_pattern.Goals as goal

@@ -1,8 +1,6 @@
 use Rattle.std.proofs.Common.{sym, codes, arith}
 use Rattle.filterset_language.specs.Parsing.Position.{position_of}
-use Rattle.filterset_language.proofs.Matching.{text_gives}
-use Rattle.filterset_language.proofs.Recovering.{if_ok}
-use Rattle.filterset_language.proofs.FaultsStand.{ends_with}
+use Rattle.filterset_language.proofs.{Matching.text_gives, Recovering.if_ok, FaultsStand.ends_with}
 use Rattle.filterset_language.proofs.StepsTakeText.{after_takes}
 use Rattle.filterset_language.proofs.parsing.matchers.read_matcher.Goals as goal
 

@@ -1,10 +1,7 @@
 use Rattle.std.proofs.Common.{◌≡◌, Option, Some, refl, subst}
-use Rattle.std.specs.Prelude.{string_bytes, IfSome}
-use Rattle.std.specs.Option.{option_map}
-use Rattle.filterset_language.specs.Parsing.Bodies.{seen_body}
-use Rattle.filterset_language.specs.Parsing.Position.{position_of}
-use Rattle.filterset_language.specs.Parsing.RawTexts.{body_at, BodyTaken}
-use Rattle.filterset_language.specs.Parsing.Recovery.{Recovers, beside}
+use Rattle.std.specs.{Prelude.string_bytes, Prelude.IfSome, Option.option_map}
+use Rattle.filterset_language.specs.Parsing.{Bodies.seen_body, Position.position_of}
+use Rattle.filterset_language.specs.Parsing.{RawTexts.body_at, RawTexts.BodyTaken, Recovery.Recovers, Recovery.beside}
 use Rattle.filterset_language.specs.declared.parsing.regex_body.RegexBody.{RegexBody}
 use Rattle.filterset_language.proofs.Matching.{regex_gives, regex_keeps}
 use Rattle.filterset_language.proofs.parsing.matchers.read_regex.Goals as goal

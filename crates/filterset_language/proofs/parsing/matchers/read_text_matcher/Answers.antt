@@ -1,15 +1,10 @@
 use Rattle.std.proofs.Common.{◌≡◌, List, ℕ, Bool, Option, Some, subst}
-use Rattle.std.specs.Prelude.{string_bytes}
-use Rattle.std.specs.Option.{option_map}
-use Rattle.std.specs.declared.alloc.Global.{Global}
-use Rattle.std.specs.declared.string.String.{String}
-use Rattle.filterset_matchers.specs.Matcher.{Matcher}
-use Rattle.filterset_matchers.specs.Matchers.{matcher_of}
+use Rattle.std.specs.{Prelude.string_bytes, Option.option_map}
+use Rattle.std.specs.declared.{alloc.Global.Global, string.String.String}
+use Rattle.filterset_matchers.specs.{Matcher.Matcher, Matchers.matcher_of}
 use Rattle.filterset_grammar.specs.declared.predicate.TextMatching.{TextMatching}
 use Rattle.filterset_language.specs.Parsing.Position.{Position, position_of}
-use Rattle.filterset_language.specs.Parsing.RawTexts.{raw_at}
-use Rattle.filterset_language.specs.Parsing.Recovery.{Recovers, beside}
-use Rattle.filterset_language.specs.Parsing.Outcome.{Faults}
+use Rattle.filterset_language.specs.Parsing.{RawTexts.raw_at, Recovery.Recovers, Recovery.beside, Outcome.Faults}
 use Rattle.filterset_language.specs.Parsing.Descent.{made, sign_at, seen_sign, signed_text}
 use Rattle.filterset_language.proofs.Matching.{text_recovers}
 use Rattle.filterset_language.proofs.parsing.matchers.read_text_matcher.Goals as goal

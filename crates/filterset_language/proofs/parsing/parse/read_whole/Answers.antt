@@ -1,7 +1,6 @@
 use Rattle.std.proofs.Common.{◌≡◌, ◌≢◌, ◌≤◌, ℕ, suc, List, [], length, sym, ap, ◌∙◌, arith, true, false}
 use Rattle.std.specs.Prelude.{◌==◌}
-use Rattle.std.proofs.lemmas.Bool.{eqb-true}
-use Rattle.std.proofs.lemmas.List.{nil_from_length}
+use Rattle.std.proofs.lemmas.{Bool.eqb-true, List.nil_from_length}
 use Rattle.filterset_language.specs.Parsing.Position.{Position, position_of}
 use Rattle.filterset_language.specs.Parsing.Descent.{operand_at, or_level_by}
 use Rattle.filterset_language.proofs.FaultsStand.{at_text_start}

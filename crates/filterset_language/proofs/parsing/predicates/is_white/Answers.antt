@@ -1,6 +1,5 @@
-use Rattle.std.proofs.Common.{◌≡◌, true}
+use Rattle.std.proofs.{Common.◌≡◌, Common.true, lemmas.Str.is_utf8-from_IsUtf8}
 use Rattle.std.specs.Str.{is_utf8}
-use Rattle.std.proofs.lemmas.Str.{is_utf8-from_IsUtf8}
 use Rattle.filterset_language.specs.Parsing.Front.{is_white}
 use Rattle.filterset_language.proofs.parsing.predicates.is_white.Goals as goal
 

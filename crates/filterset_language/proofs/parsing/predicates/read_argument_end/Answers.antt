@@ -1,9 +1,8 @@
 use Rattle.std.proofs.Common.{refl, ap, sym}
 use Rattle.std.specs.Prelude.{codes}
-use Rattle.filterset_language.specs.Parsing.Position.{Position, skip, after}
-use Rattle.filterset_language.proofs.Positions.{AtOrBehind-then}
+use Rattle.filterset_language.proofs.{FaultsStand.comma_found, Positions.AtOrBehind-then}
 use Rattle.filterset_language.proofs.Recovering.{reported, keeps_along, keeps_then, if_ok, recovers_as}
-use Rattle.filterset_language.proofs.FaultsStand.{comma_found}
+use Rattle.filterset_language.specs.Parsing.Position.{Position, skip, after}
 use Rattle.filterset_language.proofs.parsing.predicates.read_argument_end.Goals as goal
 
 pub returns-in-Some-clause-stand : goal.returns-in-Some-clause-stand

@@ -1,11 +1,10 @@
 use Rattle.std.proofs.Common.{◌≡◌, take, refl, ap, sym, ◌∙◌, false, true}
-use Rattle.filterset_language.specs.Parsing.Front.{close_len, is_white}
-use Rattle.filterset_language.specs.Parsing.Position.{position_of}
+use Rattle.filterset_language.specs.Parsing.{Front.close_len, Front.is_white, Position.position_of}
 use Rattle.filterset_language.proofs.ClosingParenthesis.{close_boundary, count_is, front_is, bare_end_is, bare_end_none}
 use Rattle.filterset_language.proofs.Recovering.{reported, keeps_along, keeps_then, if_ok, refused, recovers_as}
 use Rattle.filterset_language.proofs.FaultsStand.{argument_found}
-use Rattle.filterset_language.proofs.parsing.predicates.read_bare_end.Goals as goal
 use Rattle.filterset_language.proofs.parsing.predicates.read_bare_end.Goals.{then-not-is_white+in_ok-push, else-not-is_white}
+use Rattle.filterset_language.proofs.parsing.predicates.read_bare_end.Goals as goal
 
 pub range-requires-clause-end_boundary : goal.range-requires-clause-end_boundary
 range-requires-clause-end_boundary c = close_boundary _ _ (count_is c.args.input c.advance_to_close-end.result (close_len c.args.input.rest.now) c.advance_to_close-end.ensures.value)

@@ -1,14 +1,10 @@
 use Rattle.std.proofs.Common.{◌≤◌, refl, ap, ◌∙◌, arith}
 use Rattle.std.specs.Option.{option_map}
-use Rattle.filterset_language.specs.Parsing.Position.{position_of}
-use Rattle.filterset_matchers.specs.Matchers.{matcher_of}
-use Rattle.filterset_matchers.specs.Matcher.{Matcher}
-use Rattle.filterset_grammar.specs.Tree.{Leaf, Matching, Set}
-use Rattle.filterset_grammar.specs.Patterns.{LeafIsRead}
-use Rattle.filterset_language.specs.Parsed.{LiesOnBody}
+use Rattle.filterset_language.specs.{Parsing.Position.position_of, Parsed.LiesOnBody}
+use Rattle.filterset_language.proofs.{Matching.matching_gives, Outcomes.gives_as}
+use Rattle.filterset_matchers.specs.{Matchers.matcher_of, Matcher.Matcher}
+use Rattle.filterset_grammar.specs.{Tree.Leaf, Tree.Matching, Tree.Set, Patterns.LeafIsRead}
 use Rattle.filterset_faults.specs.declared.span.SourceSpan.{SourceSpan}
-use Rattle.filterset_language.proofs.Matching.{matching_gives}
-use Rattle.filterset_language.proofs.Outcomes.{gives_as}
 use Rattle.filterset_language.proofs.parsing.predicates.read_matching.Goals as goal
 
 pub returns-clause-value : goal.returns-clause-value

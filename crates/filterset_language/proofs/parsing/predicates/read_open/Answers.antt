@@ -1,5 +1,4 @@
-use Rattle.filterset_language.proofs.Recovering.{reported}
-use Rattle.filterset_language.proofs.FaultsStand.{open_found}
+use Rattle.filterset_language.proofs.{Recovering.reported, FaultsStand.open_found}
 use Rattle.filterset_language.proofs.parsing.predicates.read_open.Goals as goal
 
 pub returns-in_ok-push-in-None-clause-stand : goal.returns-in_ok-push-in-None-clause-stand

@@ -1,19 +1,15 @@
 use Rattle.std.proofs.Common.{◌≡◌, ◌≤◌, List, ℕ, [], ◌∷◌, ◌++◌, length, Option, Some, None, true, false, refl, ap, ◌∙◌, subst, arith, ⊎_elim}
 use Rattle.std.proofs.lemmas.Bool.{cases_lt}
 use Rattle.std.specs.Prelude.{codes, string_bytes, IfSome}
-use Rattle.std.specs.Option.{option_map}
-use Rattle.std.specs.declared.alloc.Global.{Global}
-use Rattle.std.specs.declared.string.String.{String}
+use Rattle.std.specs.{Option.option_map, declared.alloc.Global.Global, declared.string.String.String}
 use Rattle.filterset_faults.specs.declared.error.ParseSingleError.{ParseSingleError}
 use Rattle.filterset_language.specs.Parsing.Position.{Position, position_of, skip, after}
-use Rattle.filterset_language.specs.Parsing.PlatformNames.{platform_in}
-use Rattle.filterset_language.specs.Parsing.RawTexts.{raw_at, SpelledTo}
-use Rattle.filterset_language.specs.Parsing.Recovery.{Recovers, beside}
-use Rattle.filterset_language.specs.Parsing.Outcome.{Faults}
-use Rattle.filterset_grammar.specs.Tree.{Platform}
+use Rattle.filterset_language.specs.Parsing.{PlatformNames.platform_in, RawTexts.raw_at, RawTexts.SpelledTo}
+use Rattle.filterset_language.specs.Parsing.{Recovery.Recovers, Recovery.beside, Outcome.Faults}
 use Rattle.filterset_language.specs.Parsing.Descent.{◌>>=◌, between, platform_at}
 use Rattle.filterset_language.proofs.Matching.{platform_recovers, platform_found}
 use Rattle.filterset_language.proofs.Recovering.{recovers_then, refused, reported, keeps_then, bind_none}
+use Rattle.filterset_grammar.specs.Tree.{Platform}
 use Rattle.filterset_language.proofs.parsing.predicates.read_platform.Goals as goal
 
 -- the first step gave nothing

@@ -1,17 +1,15 @@
 use Rattle.std.proofs.Common.{◌≡◌, ◌≢◌, ◌∙◌, ◌∷◌, [], ◌++◌, ◌<◌, ℕ, List, None, length, refl, sym, ap, subst, arith, IsUtf8, ⊎_elim}
-use Rattle.std.specs.Prelude.{encode_utf8}
-use Rattle.std.specs.String.{string_bytes}
+use Rattle.std.specs.{Prelude.encode_utf8, String.string_bytes}
 use Rattle.std.proofs.lemmas.Bool.{cases_lt}
 use Rattle.filterset_language.specs.Parsing.Position.{Position, position_of, after}
-use Rattle.filterset_language.specs.Parsing.Escapes.{escape_at}
-use Rattle.filterset_language.specs.Parsing.RawTexts.{SpelledTo}
+use Rattle.filterset_language.specs.Parsing.{Escapes.escape_at, RawTexts.SpelledTo}
 use Rattle.filterset_language.proofs.EscapeReading.{escape_within, escape_boundary}
 use Rattle.filterset_language.proofs.Positions.{AtOrBehind-then, AtOrBehind-of}
 use Rattle.filterset_language.proofs.RawTexts.{text_start, stops_there, text_turns, text_ends, spelled_is_read, empty_is_unread, unescaped_is_unread, spelled_some, spelled_none}
 use Rattle.filterset_language.proofs.Recovering.{refused_along, recovers_along, reported, keeps_along, keeps_then, keeps_from}
 use Rattle.filterset_language.proofs.RawTextFaults.{unescaped_found, empty_found}
-use Rattle.filterset_language.proofs.parsing.raw_text.read_raw_text.Goals as goal
 use Rattle.filterset_language.proofs.parsing.raw_text.read_raw_text.Goals.{then-end-input+in_ok-push-3, else-end-input}
+use Rattle.filterset_language.proofs.parsing.raw_text.read_raw_text.Goals as goal
 
 pub loop-behind-init : goal.loop-behind-init
 loop-behind-init c = record {

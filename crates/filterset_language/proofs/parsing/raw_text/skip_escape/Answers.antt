@@ -1,8 +1,7 @@
 use Rattle.std.proofs.Common.{◌≡◌, ◌∙◌, None, refl, sym, ap, subst, arith, length, length-append, IsUtf8}
 use Rattle.filterset_language.specs.Parsing.Escapes.{escape_at}
 use Rattle.filterset_language.proofs.EscapeReading.{escape_within, escape_boundary}
-use Rattle.filterset_language.proofs.Recovering.{reported}
-use Rattle.filterset_language.proofs.RawTextFaults.{unescaped_found}
+use Rattle.filterset_language.proofs.{Recovering.reported, RawTextFaults.unescaped_found}
 use Rattle.filterset_language.proofs.parsing.raw_text.skip_escape.Goals as goal
 
 pub advance-requires-clause-within : goal.advance-requires-clause-within

@@ -1,7 +1,5 @@
 use Rattle.std.proofs.Common.{◌≡◌, ◌≤◌, length}
-use Rattle.filterset_language.specs.Parsing.Position.{IsAtOrBehind}
-use Rattle.filterset_language.specs.Parsing.RawTexts.{plain_len}
-use Rattle.filterset_language.specs.Parsing.Recovery.{Keeps}
+use Rattle.filterset_language.specs.Parsing.{Position.IsAtOrBehind, RawTexts.plain_len, Recovery.Keeps}
 use Rattle.filterset_language.proofs.parsing.raw_text.skip_raw_text.Given as goal
 
 abbrev pub invariant-loop-behind : goal.invariant-loop-behind

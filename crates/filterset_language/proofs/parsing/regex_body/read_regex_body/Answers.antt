@@ -1,15 +1,11 @@
 use Rattle.std.proofs.Common.{◌≡◌, ◌∙◌, drop, refl, rules, sym, ap, subst}
 use Rattle.std.specs.Prelude.{string_bytes}
 use Rattle.filterset_grammar.specs.Text.{with_slashes}
-use Rattle.filterset_language.specs.Parsing.Front.{close_len}
-use Rattle.filterset_language.specs.Parsing.Position.{Position}
-use Rattle.filterset_language.specs.Parsing.RawTexts.{body_len}
+use Rattle.filterset_language.specs.Parsing.{Front.close_len, Position.Position, RawTexts.body_len}
 use Rattle.filterset_language.specs.Faults.{ClosesArgument}
 use Rattle.filterset_language.proofs.BodyReading.{body_boundary, body_taken}
-use Rattle.filterset_language.proofs.ClosingParenthesis.{close_behind}
-use Rattle.filterset_language.proofs.Recovering.{reported, keeps_along}
-use Rattle.filterset_language.proofs.Replacing.{all_replaced}
-use Rattle.filterset_language.proofs.RawTextFaults.{unclosed_found}
+use Rattle.filterset_language.proofs.{ClosingParenthesis.close_behind, Recovering.reported, Recovering.keeps_along}
+use Rattle.filterset_language.proofs.{Replacing.all_replaced, RawTextFaults.unclosed_found}
 use Rattle.filterset_language.proofs.parsing.regex_body.read_regex_body.Goals as goal
 
 pub advance-slash-requires-clause-boundary : goal.advance-slash-requires-clause-boundary

@@ -1,6 +1,5 @@
 use Rattle.std.proofs.Common.{◌≡◌, refl, sym, ◌∙◌, true, false, arith, append_assoc}
-use Rattle.std.proofs.lemmas.List.{append-nil, map-append}
-use Rattle.std.proofs.lemmas.List.Elements.{filter-append}
+use Rattle.std.proofs.lemmas.List.{append-nil, map-append, Elements.filter-append}
 use Rattle.filterset_language.specs.Views.{leaf_of}
 use Rattle.filterset_language.proofs.tree.leaves.+add_leaves.Goals as goal
 

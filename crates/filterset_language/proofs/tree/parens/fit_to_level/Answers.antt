@@ -1,9 +1,6 @@
-use Rattle.std.proofs.Common.{◌≡◌, sym, ◌∙◌}
-use Rattle.std.proofs.lemmas.Bool.{false≢true}
-use Rattle.std.proofs.lemmas.Result.{IfOk-weaker}
+use Rattle.std.proofs.{Common.◌≡◌, Common.sym, Common.◌∙◌, lemmas.Bool.false≢true, lemmas.Result.IfOk-weaker}
 use Rattle.filterset_grammar.specs.Tree.{Parens}
-use Rattle.filterset_language.specs.Views.{tree_of}
-use Rattle.filterset_language.specs.Levels.{IsOfLevel, IsOperand}
+use Rattle.filterset_language.specs.{Views.tree_of, Levels.IsOfLevel, Levels.IsOperand}
 use Rattle.filterset_language.proofs.AddingParens.{stays, goes_in}
 use Rattle.filterset_language.proofs.tree.parens.fit_to_level.Goals as goal
 

@@ -1,9 +1,7 @@
 use Rattle.std.proofs.Common.{subst, sym}
-use Rattle.filterset_listing.specs.Asking.{ExprPicks, TreePicks}
-use Rattle.filterset_listing.specs.Comparing.{TellsUnknown}
+use Rattle.filterset_listing.specs.{Asking.ExprPicks, Asking.TreePicks, Comparing.TellsUnknown}
 use Rattle.filterset_listing.specs.Pickers.{expr_picker, tree_picker}
-use Rattle.filterset_listing.proofs.AnswerLemmas.{one_answer}
-use Rattle.filterset_listing.proofs.DifferenceLemmas.{tells_unknown}
+use Rattle.filterset_listing.proofs.{AnswerLemmas.one_answer, DifferenceLemmas.tells_unknown}
 use Rattle.filterset_listing.proofs.comparing.text.any_unknown.Goals as goal
 
 pub returns-clause-picks : goal.returns-clause-picks

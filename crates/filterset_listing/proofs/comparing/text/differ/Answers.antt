@@ -1,12 +1,8 @@
 use Rattle.std.proofs.Common.{rules, subst, sym}
-use Rattle.std.proofs.lemmas.Iterator.{YieldsList-from_slice}
-use Rattle.std.proofs.lemmas.Iterator.Search.{any_from_yields_List}
-use Rattle.filterset_listing.specs.Asking.{ExprPicks, TreePicks}
-use Rattle.filterset_listing.specs.Comparing.{TellsDifference}
-use Rattle.filterset_listing.specs.ComparisonText.{differs}
-use Rattle.filterset_listing.specs.Pickers.{expr_picker, tree_picker}
-use Rattle.filterset_listing.proofs.AnswerLemmas.{one_answer}
-use Rattle.filterset_listing.proofs.DifferenceLemmas.{tells_difference}
+use Rattle.std.proofs.lemmas.Iterator.{YieldsList-from_slice, Search.any_from_yields_List}
+use Rattle.filterset_listing.specs.{Asking.ExprPicks, Asking.TreePicks, Comparing.TellsDifference}
+use Rattle.filterset_listing.specs.{ComparisonText.differs, Pickers.expr_picker, Pickers.tree_picker}
+use Rattle.filterset_listing.proofs.{AnswerLemmas.one_answer, DifferenceLemmas.tells_difference}
 use Rattle.filterset_listing.proofs.comparing.text.differ.Goals as goal
 
 pub returns-clause-picks : goal.returns-clause-picks

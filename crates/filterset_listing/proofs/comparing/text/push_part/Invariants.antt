@@ -1,7 +1,6 @@
 use Rattle.std.proofs.Common.{◌≡◌, ◌++◌, length, map, string_bytes, take}
 use Rattle.std.specs.List.{flat_map, sum_by}
-use Rattle.filterset_listing.specs.Comparing.{tests_in}
-use Rattle.filterset_listing.specs.ComparisonText.{named_line, named_lines}
+use Rattle.filterset_listing.specs.{Comparing.tests_in, ComparisonText.named_line, ComparisonText.named_lines}
 use Rattle.filterset_listing.proofs.comparing.text.push_part.Given as goal
 
 -- the tests of the binaries so far were counted

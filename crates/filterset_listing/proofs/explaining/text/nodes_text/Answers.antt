@@ -1,7 +1,6 @@
 use Rattle.std.proofs.Common.{◌≡◌, ◌∙◌, ◌+◌, ◌<◌, ◌++◌, ◌∷◌, [], ℕ, List, ap, arith, get_or, length, string_bytes, sym, take}
 use Rattle.std.specs.List.{flat_map}
-use Rattle.std.proofs.lemmas.Grind.{flat_map-append}
-use Rattle.std.proofs.lemmas.List.{append-nil, take_more}
+use Rattle.std.proofs.lemmas.{Grind.flat_map-append, List.append-nil, List.take_more}
 use Rattle.std.proofs.Math.Seq.{take-length}
 use Rattle.filterset_listing.specs.ExplanationText.{explained_line}
 use Rattle.filterset_listing.proofs.explaining.text.nodes_text.Goals as goal

@@ -1,8 +1,6 @@
 use Rattle.std.proofs.Common.{refl, sym}
-use Rattle.std.proofs.lemmas.List.{append-nil, take_all}
-use Rattle.std.proofs.lemmas.Map.Text.{btree_map_updates_str}
-use Rattle.filterset_listing.specs.Listing.{tests_of}
-use Rattle.filterset_listing.specs.declared.listing.json.TestMark.TheVariants.{Beyond}
+use Rattle.std.proofs.lemmas.{List.append-nil, List.take_all, Map.Text.btree_map_updates_str}
+use Rattle.filterset_listing.specs.{Listing.tests_of, declared.listing.json.TestMark.TheVariants.Beyond}
 use Rattle.filterset_listing.proofs.MarkingLemmas.{beyond_one, first_none, first_one, no_answers}
 use Rattle.filterset_listing.proofs.listing.json.beyond_answers.Goals as goal
 

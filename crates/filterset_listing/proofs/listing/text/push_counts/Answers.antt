@@ -1,7 +1,6 @@
 use Rattle.std.proofs.Common.{◌≡◌, ◌∙◌, ◌++◌, ap, append_assoc}
-use Rattle.std.proofs.lemmas.Result.{on_ok_weaker}
+use Rattle.std.proofs.lemmas.{Result.on_ok_weaker, List.take_all}
 use Rattle.filterset_listing.specs.Asking.{Text}
-use Rattle.std.proofs.lemmas.List.{take_all}
 use Rattle.filterset_listing.proofs.listing.text.push_counts.Goals as goal
 
 -- four parts are written one after the other

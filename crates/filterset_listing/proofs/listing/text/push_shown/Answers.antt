@@ -1,14 +1,11 @@
 use Rattle.std.proofs.Common.{◌≡◌, ◌<◌, ◌∙◌, ℕ, ◌+◌, ◌++◌, [], ◌∷◌, List, append_assoc, codes, length, get_or, ap, refl, sym, take}
-use Rattle.std.specs.Prelude.{if◌then◌else◌}
-use Rattle.std.proofs.lemmas.Grind.{flat_map-append}
-use Rattle.std.proofs.lemmas.List.{append-nil, take_all}
-use Rattle.std.specs.List.{flat_map}
-use Rattle.filterset_listing.specs.Asking.{Text}
-use Rattle.filterset_listing.specs.ListText.{is_open, unknown_line}
+use Rattle.std.proofs.lemmas.{Grind.flat_map-append, List.append-nil, List.take_all}
+use Rattle.std.specs.{List.flat_map, Prelude.if◌then◌else◌}
+use Rattle.filterset_listing.specs.{Asking.Text, ListText.is_open, ListText.unknown_line}
 use Rattle.filterset_listing.specs.declared.listing.UnknownTest.{UnknownTest}
 use Rattle.filterset_listing.proofs.ListingLemmas.{one_more}
-use Rattle.filterset_listing.proofs.listing.text.push_shown.Goals as goal
 use Rattle.filterset_listing.proofs.listing.text.push_shown.Goals.{then-is_open, else-is_open}
+use Rattle.filterset_listing.proofs.listing.text.push_shown.Goals as goal
 
 -- one more line
 one_line : (front : Text) (tests : List UnknownTest) (i : ℕ) (unknown : UnknownTest) → i < length tests → get_or tests i unknown ≡ unknown

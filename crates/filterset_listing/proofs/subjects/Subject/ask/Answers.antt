@@ -3,14 +3,11 @@ use Rattle.filterset_faults.specs.declared.span.SourceSpan.{SourceSpan}
 use Rattle.filterset_graph.specs.declared.package.PackageMetadata.{PackageMetadata}
 use Rattle.filterset_grammar.specs.Tree.{Tree}
 use Rattle.filterset_expression.specs.BinaryMeaning.{IsDefiniteTree, IsUndecidedTree}
-use Rattle.filterset_expression.specs.FlatExpressions.{IsFlatOfTree}
-use Rattle.filterset_expression.specs.declared.expression.CompiledExpr.{CompiledExpr}
-use Rattle.filterset_expression.specs.declared.flat.FlatExpr.{FlatExpr}
-use Rattle.filterset_expression.specs.declared.query.BinaryQuery.{BinaryQuery}
+use Rattle.filterset_expression.specs.{FlatExpressions.IsFlatOfTree, declared.expression.CompiledExpr.CompiledExpr}
+use Rattle.filterset_expression.specs.declared.{flat.FlatExpr.FlatExpr, query.BinaryQuery.BinaryQuery}
 use Rattle.filterset_expression.proofs.Meanings.{compiled_means}
 use Rattle.filterset_listing.specs.Asking.{Text, in_group}
-use Rattle.filterset_listing.specs.Values.{HasValueIn}
-use Rattle.filterset_listing.specs.declared.explaining.candidate.Candidate.TheVariants.{Binary}
+use Rattle.filterset_listing.specs.{Values.HasValueIn, declared.explaining.candidate.Candidate.TheVariants.Binary}
 use Rattle.filterset_listing.proofs.subjects.Subject.ask.Goals as goal
 
 -- what both clauses say of an answer

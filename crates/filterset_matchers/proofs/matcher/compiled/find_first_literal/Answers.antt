@@ -3,8 +3,7 @@ use Rattle.std.proofs.lemmas.List.{take-append-drop}
 use Rattle.std.specs.Result.{MatchResult, result_ok}
 use Rattle.regex.specs.Patterns.{Re, literal, cat, cat_all}
 use Rattle.regex_hir.specs.Meaning.{meaning}
-use Rattle.regex_hir.proofs.MeaningLemmas.{meaning-Concat, meaning-Literal}
-use Rattle.regex_hir.proofs.TextLemmas.{has_bytes_at_parts}
+use Rattle.regex_hir.proofs.{MeaningLemmas.meaning-Concat, MeaningLemmas.meaning-Literal, TextLemmas.has_bytes_at_parts}
 use Rattle.filterset_matchers.specs.Compiled.{HasLiteral}
 use Rattle.filterset_matchers.proofs.matcher.compiled.find_first_literal.Goals as goal
 

@@ -1,8 +1,7 @@
 use Rattle.std.proofs.Common.{◌≡◌, ℕ, arith, refl, sym, subst}
-use Rattle.regex_hir.specs.Matches.{IsMinLen}
+use Rattle.regex_hir.specs.{Matches.IsMinLen, Meaning.meaning}
 use Rattle.regex.specs.Patterns.{Re}
 use Rattle.filterset_matchers.specs.Compiled.{HasLiteral}
-use Rattle.regex_hir.specs.Meaning.{meaning}
 use Rattle.filterset_matchers.proofs.matcher.compiled.place_of.Goals as goal
 
 has_a_byte : (re : Re) (n : ℕ) → IsMinLen re n → ¬ (n ≡ 0) → IsMinLen re 1

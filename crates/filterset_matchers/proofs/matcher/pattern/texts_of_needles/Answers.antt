@@ -1,6 +1,5 @@
 use Rattle.std.proofs.Common.{◌≡◌, ◌+◌, List, [], ◌∷◌, ◌++◌, ℕ, Vec, Global, IsUtf8, map, take, string_bytes, sym, ap, ◌∙◌}
-use Rattle.std.proofs.lemmas.List.{map_push, take_more}
-use Rattle.std.proofs.lemmas.List.Elements.{All-push, All-same}
+use Rattle.std.proofs.lemmas.List.{map_push, take_more, Elements.All-push, Elements.All-same}
 use Rattle.filterset_matchers.proofs.matcher.pattern.texts_of_needles.Goals as goal
 
 pub loop-needle-preserved : goal.loop-needle-preserved

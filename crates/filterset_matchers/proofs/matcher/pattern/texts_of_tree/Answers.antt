@@ -1,6 +1,5 @@
 use Rattle.std.proofs.Common.{◌≡◌, IfOk, IfSome, map, string_bytes, Option, Result, Ok, Err, Some, None, ap, ◌∙◌}
-use Rattle.regex_extract.specs.Exact.{IsChoiceOf}
-use Rattle.regex_extract.specs.Needles.{AreFilled, needles_of}
+use Rattle.regex_extract.specs.{Exact.IsChoiceOf, Needles.AreFilled, Needles.needles_of}
 use Rattle.regex_hir.specs.Meaning.{meaning}
 use Rattle.filterset_matchers.proofs.ChoiceLemmas.{IsChoice-of_tree}
 use Rattle.filterset_matchers.proofs.matcher.pattern.texts_of_tree.Goals as goal

@@ -1,6 +1,5 @@
 use Rattle.std.proofs.Common.{◌≡◌, ℕ, List, [], ◌∷◌, ◌++◌, Bool, true, false, Some, chars, drop, length, string_bytes, sym, ap, ◌∙◌, subst, arith, append-nil}
-use Rattle.std.proofs.lemmas.List.{at_drop_all}
-use Rattle.std.proofs.lemmas.Iterator.{YieldsList-from_chars}
+use Rattle.std.proofs.lemmas.{List.at_drop_all, Iterator.YieldsList-from_chars}
 use Rattle.std.proofs.lemmas.Iterator.Consumers.{YieldsList-turn, YieldsList-end}
 use Rattle.filterset_matchers.specs.Pattern.{has_meaning, is_escapable, plain_text}
 use Rattle.filterset_matchers.proofs.Unescaping.{goes_on, after_turn, passes_escaped, passes_plain, passes_slash, stops_escaped, stops_special}

@@ -1,6 +1,5 @@
 use Rattle.std.proofs.Common.{◌+◌, ◌-◌, ap, bit_and, arith}
-use Rattle.std.proofs.lemmas.Nat.{and_le_l}
-use Rattle.std.proofs.lemmas.Nat.Bits.{bit_at-zero}
+use Rattle.std.proofs.lemmas.Nat.{and_le_l, Bits.bit_at-zero}
 use Rattle.std.specs.Int.{bit_at}
 use Rattle.filterset_matchers.proofs.Substrings.{between_zeros, bit_of_both}
 use Rattle.filterset_matchers.proofs.matcher.substring.narrow.Goals as goal

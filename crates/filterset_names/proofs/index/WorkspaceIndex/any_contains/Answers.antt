@@ -1,13 +1,10 @@
 use Rattle.std.proofs.Common.{◌≡◌, ◌<◌, ◌∙◌, Bool, true, ap, arith, length, subst, sym}
-use Rattle.std.specs.Prelude.{not, string_bytes}
-use Rattle.std.specs.String.{string_len}
-use Rattle.std.specs.Str.Iter.{HasSubslice}
+use Rattle.std.specs.{Prelude.not, Prelude.string_bytes, String.string_len, Str.Iter.HasSubslice}
 use Rattle.std.proofs.lemmas.Bool.{false≢true}
 use Rattle.filterset_graph.specs.Packages.{Text}
-use Rattle.filterset_names.specs.Something.{lines_of, tests_of}
-use Rattle.filterset_names.specs.Workspaces.{workspace_row}
-use Rattle.memchr.specs.Find.{FindsNeedle}
+use Rattle.filterset_names.specs.{Something.lines_of, Something.tests_of, Workspaces.workspace_row}
 use Rattle.filterset_names.proofs.LineLemmas.{any_line, finds, is_none, is_some, no_line}
+use Rattle.memchr.specs.Find.{FindsNeedle}
 use Rattle.filterset_names.proofs.index.WorkspaceIndex.any_contains.Goals as goal
 
 pub returns-then-not-is_empty : goal.returns-then-not-is_empty

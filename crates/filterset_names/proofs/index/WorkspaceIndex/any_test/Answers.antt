@@ -1,13 +1,9 @@
 use Rattle.std.proofs.Common.{◌∙◌, ◌↔◌, Bor, List, ap, map, subst, sym}
-use Rattle.std.specs.Prelude.{Any, IsTrue}
-use Rattle.std.specs.Str.Iter.{HasSubslice}
+use Rattle.std.specs.{Prelude.Any, Prelude.IsTrue, Str.Iter.HasSubslice}
 use Rattle.std.proofs.lemmas.Result.{IfOk-weaker}
 use Rattle.filterset_graph.specs.Packages.{Text}
-use Rattle.filterset_matchers.specs.Matcher.{MatchesName}
-use Rattle.filterset_matchers.specs.Matchers.{matcher_of}
-use Rattle.filterset_matchers.specs.declared.matcher.NameMatcher.{NameMatcher}
-use Rattle.filterset_names.specs.Something.{tests_of}
-use Rattle.filterset_names.specs.Workspaces.{workspace_row}
+use Rattle.filterset_matchers.specs.{Matcher.MatchesName, Matchers.matcher_of, declared.matcher.NameMatcher.NameMatcher}
+use Rattle.filterset_names.specs.{Something.tests_of, Workspaces.workspace_row}
 use Rattle.filterset_names.proofs.index.WorkspaceIndex.any_test.Goals as goal
 
 pub returns-in-Contains : goal.returns-in-Contains

@@ -1,13 +1,9 @@
-use Rattle.std.proofs.Common.{◌↔◌, Bool, Result, sym, subst}
-use Rattle.std.specs.Prelude.{Any, IfOk, IsTrue}
-use Rattle.std.proofs.lemmas.Result.{IfOk-weaker}
-use Rattle.std.specs.declared.alloc.AllocError.{AllocError}
+use Rattle.std.proofs.{Common.◌↔◌, Common.Bool, Common.Result, Common.sym, Common.subst, lemmas.Result.IfOk-weaker}
+use Rattle.std.specs.{Prelude.Any, Prelude.IfOk, Prelude.IsTrue, declared.alloc.AllocError.AllocError}
 use Rattle.filterset_faults.specs.declared.span.SourceSpan.{SourceSpan}
-use Rattle.filterset_language.specs.Views.{leaf_of}
-use Rattle.filterset_language.specs.declared.tree.ParsedLeaf.{ParsedLeaf}
+use Rattle.filterset_language.specs.{Views.leaf_of, declared.tree.ParsedLeaf.ParsedLeaf}
 use Rattle.filterset_matchers.specs.Matchers.{matcher_of}
-use Rattle.filterset_names.specs.Matched.{PicksPackage}
-use Rattle.filterset_names.specs.Something.{MatchesSomething}
+use Rattle.filterset_names.specs.{Matched.PicksPackage, Something.MatchesSomething}
 use Rattle.filterset_names.specs.Workspaces.{WorkspaceRow, workspace_row}
 use Rattle.filterset_names.specs.declared.packages.Reach.TheVariants.{Alone, Dependencies, Dependents}
 use Rattle.filterset_names.proofs.index.WorkspaceIndex.has_match.Goals as goal

@@ -1,12 +1,10 @@
 use Rattle.std.proofs.Common.{◌≡◌, Bool, List, Option, ℕ, length, not, refl, subst, sym, ap, ◌∙◌}
-use Rattle.std.specs.Prelude.{◌==◌, ◌&&◌, is_some}
-use Rattle.std.specs.List.{AllZip, list_all}
+use Rattle.std.specs.{Prelude.◌==◌, Prelude.◌&&◌, Prelude.is_some, List.AllZip, List.list_all}
 use Rattle.std.proofs.lemmas.List.Elements.{All-push}
 use Rattle.filterset_expression.specs.Contexts.{default_of}
 use Rattle.filterset_overrides.specs.Applied.{IsApplied, overrides_of}
 use Rattle.filterset_overrides.specs.Applying.{AppliesAs, DoesApply, IsCompiledOf, tests_of, verdict}
-use Rattle.filterset_overrides.specs.Counting.{is_picked}
-use Rattle.filterset_overrides.specs.declared.counting.applied.AppliedOverride.{AppliedOverride}
+use Rattle.filterset_overrides.specs.{Counting.is_picked, declared.counting.applied.AppliedOverride.AppliedOverride}
 use Rattle.filterset_overrides.proofs.ListLemmas.{AllZip-length, AllZip-mapped, pushed_map}
 use Rattle.filterset_overrides.proofs.counting.applied.apply_all.Goals as goal
 

@@ -1,9 +1,6 @@
 use Rattle.std.proofs.Common.{◌≡◌, ◌++◌, ◌∷◌, [], Bool, List, Option, true, false, subst, sym}
-use Rattle.std.specs.List.{AllZip, count_by}
-use Rattle.filterset_overrides.specs.Applied.{AreTaken}
-use Rattle.filterset_overrides.specs.Applying.{DoesApply, sets}
-use Rattle.std.specs.Option.{is_none, unwrap_or}
-use Rattle.filterset_overrides.specs.Giving.{Gives}
+use Rattle.std.specs.{List.AllZip, List.count_by, Option.is_none, Option.unwrap_or}
+use Rattle.filterset_overrides.specs.{Applied.AreTaken, Applying.DoesApply, Applying.sets, Giving.Gives}
 use Rattle.filterset_overrides.proofs.GivingLemmas.{given_tests, more_taken, same_taken}
 use Rattle.filterset_overrides.proofs.counting.columns.count_given.Goals as goal
 

@@ -1,10 +1,8 @@
 use Rattle.std.proofs.Common.{rules, ◌≡◌, ◌++◌, ◌∷◌, [], Bool, List, Option, Some, false, length, replicate, take, subst, sym, ap, ◌∙◌}
 use Rattle.filterset_overrides.specs.Applied.{AreTaken, IsApplied, overrides_of}
-use Rattle.filterset_overrides.specs.Counting.{EachAfter, IsGiven}
-use Rattle.filterset_overrides.specs.declared.asked.AskedOverride.{AskedOverride}
+use Rattle.filterset_overrides.specs.{Counting.EachAfter, Counting.IsGiven, declared.asked.AskedOverride.AskedOverride}
 use Rattle.filterset_overrides.specs.declared.counting.applied.AppliedOverride.{AppliedOverride}
-use Rattle.filterset_overrides.proofs.GivingLemmas.{none_taken}
-use Rattle.filterset_overrides.proofs.ListLemmas.{EachAfter-push, map_more}
+use Rattle.filterset_overrides.proofs.{GivingLemmas.none_taken, ListLemmas.EachAfter-push, ListLemmas.map_more}
 use Rattle.filterset_overrides.proofs.counting.columns.count_setting.Goals as goal
 
 pub loop-one-init : goal.loop-one-init

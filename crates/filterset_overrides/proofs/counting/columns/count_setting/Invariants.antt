@@ -2,8 +2,7 @@ use Rattle.std.proofs.Common.{◌≡◌, List, [], length, take}
 use Rattle.filterset_graph.specs.declared.package.PackageMetadata.{PackageMetadata}
 use Rattle.filterset_expression.specs.declared.expression.CompiledExpr.{CompiledExpr}
 use Rattle.filterset_overrides.specs.Applied.{AreApplied, AreTaken, overrides_of}
-use Rattle.filterset_overrides.specs.Applying.{Test}
-use Rattle.filterset_overrides.specs.Counting.{EachAfter, IsGiven}
+use Rattle.filterset_overrides.specs.{Applying.Test, Counting.EachAfter, Counting.IsGiven}
 use Rattle.filterset_overrides.proofs.counting.columns.count_setting.Given as goal
 
 -- the overrides so far have their counts, and it is known which tests get the setting from them

@@ -1,8 +1,7 @@
 use Rattle.std.proofs.Common.{◌≡◌, List, [], All, length, map, take}
 use Rattle.filterset_graph.specs.declared.package.PackageMetadata.{PackageMetadata}
 use Rattle.filterset_expression.specs.declared.expression.CompiledExpr.{CompiledExpr}
-use Rattle.filterset_overrides.specs.Applied.{AreApplied, overrides_of}
-use Rattle.filterset_overrides.specs.Applying.{Test}
+use Rattle.filterset_overrides.specs.{Applied.AreApplied, Applied.overrides_of, Applying.Test}
 use Rattle.filterset_overrides.specs.Counting.{EachAfter, IsGiven}
 use Rattle.filterset_overrides.specs.declared.counting.SettingColumn.{SettingColumn}
 use Rattle.filterset_overrides.proofs.counting.columns.count_settings.Given as goal

@@ -1,6 +1,5 @@
 use Rattle.std.proofs.Common.{◌∙◌, ◌++◌, ◌∷◌, [], ap, map, string_bytes}
-use Rattle.std.proofs.lemmas.Iterator.Consumers.{YieldsList-end}
-use Rattle.std.proofs.lemmas.Iterator.Splits.{YieldsList-from_lines}
+use Rattle.std.proofs.lemmas.Iterator.{Consumers.YieldsList-end, Splits.YieldsList-from_lines}
 use Rattle.std.proofs.lemmas.List.{flat_map_more, map-append}
 use Rattle.filterset_overrides.specs.ExplainedText.{indented_line}
 use Rattle.filterset_overrides.proofs.explaining.text.push_indented.Goals as goal

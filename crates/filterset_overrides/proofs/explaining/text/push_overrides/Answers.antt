@@ -1,8 +1,6 @@
-use Rattle.std.proofs.Common.{arith, sym}
-use Rattle.std.proofs.lemmas.List.{take_all}
+use Rattle.std.proofs.{Common.arith, Common.sym, lemmas.List.take_all}
 use Rattle.filterset_overrides.specs.ExplainedText.{indented, reason_at}
-use Rattle.filterset_overrides.proofs.ListLemmas.{three_more}
-use Rattle.filterset_overrides.proofs.ReasonLemmas.{lines_more}
+use Rattle.filterset_overrides.proofs.{ListLemmas.three_more, ReasonLemmas.lines_more}
 use Rattle.filterset_overrides.proofs.explaining.text.push_overrides.Goals as goal
 
 pub loop-at-preserved : goal.loop-at-preserved

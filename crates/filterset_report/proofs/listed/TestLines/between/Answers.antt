@@ -1,7 +1,6 @@
 use Rattle.std.proofs.Common.{arith, ◌≡◌, ◌≤◌, ◌∙◌, ℕ, get_or, length, take}
 use Rattle.std.proofs.lemmas.List.{get_or_read}
-use Rattle.filterset_report.specs.Lines.{lines_of}
-use Rattle.filterset_report.specs.declared.listed.TestLines.{TestLines}
+use Rattle.filterset_report.specs.{Lines.lines_of, declared.listed.TestLines.TestLines}
 use Rattle.filterset_report.proofs.ListedLemmas.{lines_between, lines_cut, lines_rise}
 use Rattle.filterset_report.proofs.listed.TestLines.between.Goals as goal
 

@@ -1,8 +1,6 @@
 use Rattle.std.proofs.Common.{rules, ◌≡◌}
-use Rattle.std.specs.Prelude.{option_map}
-use Rattle.std.specs.Borrow.{Bor}
-use Rattle.filterset_report.specs.declared.lookup.IndexedBinary.{IndexedBinary}
-use Rattle.filterset_report.specs.Index.{entry_at}
+use Rattle.std.specs.{Prelude.option_map, Borrow.Bor}
+use Rattle.filterset_report.specs.{declared.lookup.IndexedBinary.IndexedBinary, Index.entry_at}
 use Rattle.filterset_report.proofs.lookup.RecordLookup.binary_with.Goals as goal
 
 pub returns : goal.returns

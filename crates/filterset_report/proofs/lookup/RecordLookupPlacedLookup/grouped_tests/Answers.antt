@@ -1,12 +1,7 @@
-use Rattle.std.proofs.Common.{◌≡◌, Some, map, sym}
-use Rattle.std.specs.List.{find}
-use Rattle.std.specs.Str.{bytes_eq}
-use Rattle.std.proofs.lemmas.List.Elements.{All-weaker}
-use Rattle.filterset_columns.specs.Grouped.{IsGrouped}
-use Rattle.filterset_columns.specs.declared.groups.GroupedTest.{GroupedTest}
-use Rattle.filterset_report.specs.Index.{group_with}
-use Rattle.filterset_report.specs.Lookup.{matches_recorded_group}
-use Rattle.filterset_report.specs.Rows.{binary_row}
+use Rattle.std.proofs.{Common.◌≡◌, Common.Some, Common.map, Common.sym, lemmas.List.Elements.All-weaker}
+use Rattle.std.specs.{List.find, Str.bytes_eq}
+use Rattle.filterset_columns.specs.{Grouped.IsGrouped, declared.groups.GroupedTest.GroupedTest}
+use Rattle.filterset_report.specs.{Index.group_with, Lookup.matches_recorded_group, Rows.binary_row}
 use Rattle.filterset_report.specs.declared.record.binaries.BinaryEntry.{BinaryEntry}
 use Rattle.filterset_report.proofs.LookupLemmas.{listed_group}
 use Rattle.filterset_report.proofs.lookup.RecordLookupPlacedLookup.grouped_tests.Goals as goal

@@ -1,10 +1,7 @@
-use Rattle.std.proofs.Common.{Option, subst, sym}
+use Rattle.std.proofs.{Common.Option, Common.subst, Common.sym, lemmas.Bool.false≢true, lemmas.Result.IfOk-weaker}
 use Rattle.std.specs.Prelude.{IsSomeAnd}
-use Rattle.std.proofs.lemmas.Bool.{false≢true}
-use Rattle.std.proofs.lemmas.Result.{IfOk-weaker}
 use Rattle.filterset_json.specs.Shape.{Text}
-use Rattle.filterset_matchers.specs.Matcher.{MatchesName}
-use Rattle.filterset_matchers.specs.Matchers.{matcher_of}
+use Rattle.filterset_matchers.specs.{Matcher.MatchesName, Matchers.matcher_of}
 use Rattle.filterset_report.proofs.LookupLemmas.{recorded}
 use Rattle.filterset_report.proofs.lookup.RecordLookupPlacedLookup.is_member_test.Goals as goal
 

@@ -1,15 +1,10 @@
 use Rattle.std.proofs.Common.{rules, arith, ◌≡◌, ◌<◌, ◌++◌, ◌∙◌, List, [], ap, get_or, length, map, refl, subst, sym, take}
-use Rattle.std.proofs.lemmas.Bool.{eqb-true}
-use Rattle.std.proofs.lemmas.List.{append-nil, nil_from_length}
-use Rattle.std.proofs.lemmas.Simd.{map-map}
+use Rattle.std.proofs.lemmas.{Bool.eqb-true, List.append-nil, List.nil_from_length, Simd.map-map}
 use Rattle.filterset_expression.specs.Meaning.{IsCompiled}
 use Rattle.filterset_json.specs.Pieces.{Pieces, no_pieces}
 use Rattle.filterset_json.proofs.PieceLemmas.{Pieces-more, added_twice}
 use Rattle.filterset_language.specs.Views.{tree_of}
-use Rattle.filterset_report.specs.Library.{background_of}
-use Rattle.filterset_report.specs.Record.{BinaryRow}
-use Rattle.filterset_report.specs.Report.{BinaryLines}
-use Rattle.filterset_report.specs.Rows.{binary_row}
+use Rattle.filterset_report.specs.{Library.background_of, Record.BinaryRow, Report.BinaryLines, Rows.binary_row}
 use Rattle.filterset_report.specs.declared.listed.ListedBinary.{ListedBinary}
 use Rattle.filterset_report.proofs.ReportLemmas.{taken_all}
 use Rattle.filterset_report.proofs.report.sections.push_asked.Goals as goal

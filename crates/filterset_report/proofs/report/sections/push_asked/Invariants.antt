@@ -1,11 +1,7 @@
 use Rattle.std.proofs.Common.{◌≡◌, ◌++◌, map, string_bytes, take}
-use Rattle.filterset_json.specs.Pieces.{Pieces}
-use Rattle.filterset_json.specs.Shape.{Text}
+use Rattle.filterset_json.specs.{Pieces.Pieces, Shape.Text}
 use Rattle.filterset_language.specs.Views.{tree_of}
-use Rattle.filterset_report.specs.Asking.{IsSameExpr}
-use Rattle.filterset_report.specs.Library.{background_of}
-use Rattle.filterset_report.specs.Report.{BinaryLines}
-use Rattle.filterset_report.specs.Rows.{binary_row}
+use Rattle.filterset_report.specs.{Asking.IsSameExpr, Library.background_of, Report.BinaryLines, Rows.binary_row}
 use Rattle.filterset_report.proofs.report.sections.push_asked.Given as goal
 
 -- the lines of the binaries so far were added

@@ -1,21 +1,14 @@
 use Rattle.std.proofs.Common.{arith, ◌≡◌, ◌↔◌, ◌<◌, ◌≤◌, ◌+◌, ◌-◌, ◌++◌, ◌∙◌, ℕ, Bool, IsTrue, List, [], ap, drop, length, map, refl, string_bytes, subst, sym, take}
 use Rattle.std.proofs.lemmas.List.{append-nil}
 use Rattle.filterset_columns.specs.Columns.{answer_of, default_filter_of, names_of, test_of, Answered, IsAt}
-use Rattle.filterset_expression.specs.Expression.{Lookup}
-use Rattle.filterset_expression.specs.Meaning.{Meaning}
-use Rattle.filterset_expression.specs.declared.query.BinaryQuery.{BinaryQuery}
+use Rattle.filterset_expression.specs.{Expression.Lookup, Meaning.Meaning, declared.query.BinaryQuery.BinaryQuery}
 use Rattle.filterset_json.specs.Pieces.{Pieces, no_pieces}
 use Rattle.filterset_json.proofs.PieceLemmas.{added_twice}
-use Rattle.filterset_report.specs.Library.{IsAboutBinary}
-use Rattle.filterset_report.specs.Lines.{lines_of, test_line}
-use Rattle.filterset_report.specs.Lookup.{matches_recorded_group}
-use Rattle.filterset_report.specs.Record.{TestRow}
-use Rattle.filterset_report.specs.Report.{TestLine}
-use Rattle.filterset_report.specs.Rows.{binary_row, test_row}
-use Rattle.filterset_report.specs.declared.record.binaries.TestEntry.{TestEntry}
+use Rattle.filterset_report.specs.{Library.IsAboutBinary, Lines.lines_of, Lines.test_line}
+use Rattle.filterset_report.specs.{Lookup.matches_recorded_group, Record.TestRow, Report.TestLine}
+use Rattle.filterset_report.specs.{Rows.binary_row, Rows.test_row, declared.record.binaries.TestEntry.TestEntry}
 use Rattle.filterset_report.proofs.ColumnAnswers.{answered_test, counted_tests}
-use Rattle.filterset_report.proofs.ListedLemmas.{Pieces-run}
-use Rattle.filterset_report.proofs.ReportLemmas.{taken_all}
+use Rattle.filterset_report.proofs.{ListedLemmas.Pieces-run, ReportLemmas.taken_all}
 use Rattle.filterset_report.proofs.report.sections.push_asked_tests.OwnLists.{reads-PlacedLookup-matches_group-1-1}
 use Rattle.filterset_report.proofs.report.sections.push_asked_tests.Goals as goal
 

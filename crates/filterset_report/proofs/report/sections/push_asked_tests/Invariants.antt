@@ -1,9 +1,7 @@
 use Rattle.std.proofs.Common.{◌≡◌, ◌++◌, ◌-◌, ◌≤◌, length, map, string_bytes, take}
 use Rattle.filterset_report.specs.Asking.{ForItsExpr, IsLookupOf}
-use Rattle.filterset_json.specs.Shape.{Text}
-use Rattle.filterset_json.specs.Pieces.{Pieces}
-use Rattle.filterset_report.specs.Report.{TestLine}
-use Rattle.filterset_report.specs.Rows.{binary_row, test_row}
+use Rattle.filterset_report.specs.{Report.TestLine, Rows.binary_row, Rows.test_row}
+use Rattle.filterset_json.specs.{Shape.Text, Pieces.Pieces}
 use Rattle.filterset_report.proofs.report.sections.push_asked_tests.Given as goal
 
 abbrev pub decreases-loop-position : goal.decreases-loop-position

@@ -3,28 +3,20 @@ use Rattle.std.proofs.lemmas.Result.{on_ok_weaker}
 use Rattle.filterset_columns.specs.Columns.{names_of, test_of, IsAt}
 use Rattle.filterset_columns.proofs.ColumnLemmas.{some_item}
 use Rattle.filterset_expression.specs.BinaryMeaning.{IsDefiniteTree, IsUndecidedTree}
-use Rattle.filterset_expression.specs.Expression.{with_default}
-use Rattle.filterset_expression.specs.FlatExpressions.{IsTold}
-use Rattle.filterset_expression.specs.Meaning.{Meaning}
+use Rattle.filterset_expression.specs.{Expression.with_default, FlatExpressions.IsTold, Meaning.Meaning}
 use Rattle.filterset_expression.specs.declared.query.BinaryQuery.{BinaryQuery}
-use Rattle.filterset_expression.proofs.LeafAnswers.{told_of_test}
-use Rattle.filterset_expression.proofs.Meanings.{compiled_means}
+use Rattle.filterset_expression.proofs.{LeafAnswers.told_of_test, Meanings.compiled_means}
 use Rattle.filterset_faults.specs.declared.span.SourceSpan.{SourceSpan}
 use Rattle.filterset_graph.specs.declared.binary.TestCaseName.{TestCaseName}
 use Rattle.filterset_grammar.specs.Tree.{Tree}
-use Rattle.filterset_json.specs.Pieces.{Pieces, no_pieces}
-use Rattle.filterset_json.specs.Shape.{Text}
+use Rattle.filterset_json.specs.{Pieces.Pieces, Pieces.no_pieces, Shape.Text}
 use Rattle.filterset_json.proofs.PieceLemmas.{added_twice}
 use Rattle.filterset_report.specs.Library.{Background, IsAboutBinary}
-use Rattle.filterset_report.specs.Lines.{answer_text, lines_of, test_line}
-use Rattle.filterset_report.specs.Lookup.{matches_recorded_group}
-use Rattle.filterset_report.specs.Record.{BinaryRow, TestRow}
-use Rattle.filterset_report.specs.Report.{BinaryLines, TestLine}
-use Rattle.filterset_report.specs.Rows.{binary_row, test_row}
-use Rattle.filterset_report.specs.declared.record.binaries.TestEntry.{TestEntry}
+use Rattle.filterset_report.specs.{Lines.answer_text, Lines.lines_of, Lines.test_line, Lookup.matches_recorded_group}
+use Rattle.filterset_report.specs.{Record.BinaryRow, Record.TestRow, Report.BinaryLines, Report.TestLine}
+use Rattle.filterset_report.specs.{Rows.binary_row, Rows.test_row, declared.record.binaries.TestEntry.TestEntry}
 use Rattle.filterset_report.proofs.ColumnAnswers.{same_at, same_length}
-use Rattle.filterset_report.proofs.ListedLemmas.{Pieces-run, where_added}
-use Rattle.filterset_report.proofs.ReportLemmas.{taken_all}
+use Rattle.filterset_report.proofs.{ListedLemmas.Pieces-run, ListedLemmas.where_added, ReportLemmas.taken_all}
 use Rattle.filterset_report.proofs.report.sections.push_binary.Goals as goal
 
 -- the lines of a binary, by what the library tells of it, and the lines of its tests

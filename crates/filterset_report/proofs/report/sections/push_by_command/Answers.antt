@@ -2,8 +2,7 @@ use Rattle.std.proofs.Common.{rules, ◌≡◌, ◌++◌, codes, refl, subst}
 use Rattle.std.proofs.lemmas.Result.{on_ok_weaker}
 use Rattle.filterset_language.specs.Views.{tree_of}
 use Rattle.filterset_json.proofs.PieceLemmas.{added_twice}
-use Rattle.filterset_report.specs.Library.{background_of}
-use Rattle.filterset_report.specs.Report.{Accepted, printed_line}
+use Rattle.filterset_report.specs.{Library.background_of, Report.Accepted, Report.printed_line}
 use Rattle.filterset_report.specs.declared.record.commands.Command.{Command}
 use Rattle.filterset_report.specs.declared.record.commands.Command.TheVariants as commands
 use Rattle.filterset_report.proofs.report.sections.push_by_command.Goals as goal

@@ -2,9 +2,7 @@ use Rattle.std.proofs.Common.{rules, ◌≡◌, ℕ, ◌+◌, zero-add, ◌∷�
 use Rattle.std.proofs.lemmas.Iterator.Adapters.{YieldsList-from_vec}
 use Rattle.std.proofs.lemmas.Iterator.Consumers.{YieldsList-end, YieldsList-from_enumerate, YieldsList-turn}
 use Rattle.std.proofs.lemmas.List.{length-map, map-append}
-use Rattle.filterset_report.specs.Library.{background_of}
-use Rattle.filterset_report.specs.Report.{no_sections, outcome_of}
-use Rattle.filterset_report.specs.Rows.{filterset_row}
+use Rattle.filterset_report.specs.{Library.background_of, Report.no_sections, Report.outcome_of, Rows.filterset_row}
 use Rattle.filterset_report.specs.declared.record.filtersets.FiltersetEntry.{FiltersetEntry}
 use Rattle.filterset_report.proofs.ReportLemmas.{Sections-push, map-pairs, number_is_position}
 use Rattle.filterset_report.proofs.report.sections.report_sections.Goals as goal

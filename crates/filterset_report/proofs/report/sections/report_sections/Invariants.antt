@@ -1,7 +1,5 @@
 use Rattle.std.proofs.Common.{map, string_bytes}
-use Rattle.filterset_report.specs.Library.{background_of}
-use Rattle.filterset_report.specs.Report.{Sections}
-use Rattle.filterset_report.specs.Rows.{filterset_row}
+use Rattle.filterset_report.specs.{Library.background_of, Report.Sections, Rows.filterset_row}
 use Rattle.filterset_report.proofs.report.sections.report_sections.Given as goal
 
 -- the sections of the filtersets so far are written

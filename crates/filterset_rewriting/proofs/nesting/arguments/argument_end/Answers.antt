@@ -1,11 +1,9 @@
 use Rattle.std.proofs.Common.{◌∷◌, ◌++◌, ◌∙◌, ap, subst}
-use Rattle.filterset_language.proofs.WhiteSpaceTest.{white_close}
+use Rattle.filterset_language.proofs.{SpelledLeavesAreRead.open_stop, WhiteSpaceTest.white_close}
 use Rattle.filterset_language.specs.Parsing.Front.{close_len}
 use Rattle.filterset_rewriting.proofs.ArgumentLemmas.{cut}
-use Rattle.filterset_rewriting.specs.declared.nesting.arguments.ArgumentKind.TheVariants.{Nothing}
-use Rattle.filterset_language.proofs.SpelledLeavesAreRead.{open_stop}
 use Rattle.filterset_rewriting.specs.Nesting.Arguments.{IsArgument}
-use Rattle.filterset_rewriting.specs.declared.nesting.arguments.ArgumentKind.{ArgumentKind}
+use Rattle.filterset_rewriting.specs.declared.nesting.arguments.ArgumentKind.{ArgumentKind, TheVariants.Nothing}
 use Rattle.filterset_rewriting.proofs.nesting.arguments.argument_end.Goals as goal
 
 pub returns-in_err-inside-clause-behind : goal.returns-in_err-inside-clause-behind

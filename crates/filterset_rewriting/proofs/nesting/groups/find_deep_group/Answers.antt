@@ -1,6 +1,5 @@
 use Rattle.std.proofs.Common.{◌≡◌, ◌<◌, ◌≤◌, ◌≢◌, ◌+◌, Bool, true, false, ℕ, List, arith, eqb, get_or, length, refl, take}
-use Rattle.std.specs.Prelude.{◌==◌}
-use Rattle.std.specs.List.{count_by}
+use Rattle.std.specs.{Prelude.◌==◌, List.count_by}
 use Rattle.std.proofs.lemmas.Bool.{eqb-true}
 use Rattle.std.proofs.lemmas.List.Sums.{count_by_more_no, count_by_more_yes, sum_by-take-le}
 use Rattle.filterset_rewriting.proofs.nesting.groups.find_deep_group.Goals as goal

@@ -1,6 +1,5 @@
 use Rattle.std.proofs.Common.{◌≤◌, take}
-use Rattle.std.specs.Prelude.{◌==◌}
-use Rattle.std.specs.List.{count_by}
+use Rattle.std.specs.{Prelude.◌==◌, List.count_by}
 use Rattle.filterset_rewriting.proofs.nesting.groups.find_deep_group.Given as goal
 
 -- no more braces are open than are passed

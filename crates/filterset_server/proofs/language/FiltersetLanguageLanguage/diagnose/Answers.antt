@@ -1,16 +1,12 @@
 use Rattle.std.proofs.Common.{◌≡◌, ◌∷◌, ◌∙◌, [], IfOk, List, inl, inr, map, refl, string_bytes, subst, sym}
 use Rattle.std.proofs.lemmas.Result.{IfOk-weaker}
-use Rattle.serde_json.specs.Data.{Data}
-use Rattle.serde_json.specs.View.{view}
-use Rattle.filterset_entries.specs.Checked.{text_row}
-use Rattle.filterset_entries.specs.declared.text.TextEntry.{TextEntry}
+use Rattle.serde_json.specs.{Data.Data, View.view}
+use Rattle.filterset_entries.specs.{Checked.text_row, declared.text.TextEntry.TextEntry}
 use Rattle.filterset_names.specs.Workspaces.{known_of}
 use Rattle.filterset_server.specs.Unmatched.{DiagnosesContentIn}
 use Rattle.filterset_documents.specs.Contents.{ContentRow, names_in}
-use Rattle.filterset_documents.specs.Diagnostics.{IsRefusalAt}
-use Rattle.filterset_documents.specs.Filtersets.{SaysWhy}
-use Rattle.filterset_editor.specs.Positions.{Text}
-use Rattle.filterset_editor.specs.declared.positions.Encoding.{Encoding}
+use Rattle.filterset_documents.specs.{Diagnostics.IsRefusalAt, Filtersets.SaysWhy}
+use Rattle.filterset_editor.specs.{Positions.Text, declared.positions.Encoding.Encoding}
 use Rattle.filterset_sources.specs.declared.refusal.SourceRefusal.{SourceRefusal}
 use Rattle.filterset_sources.specs.declared.refusal.SourceRefusal.TheVariants.{NotJson, NotToml, OutOfMemory, WrongValue}
 use Rattle.filterset_server.proofs.language.FiltersetLanguageLanguage.diagnose.Goals as goal

@@ -1,5 +1,4 @@
-use Rattle.std.proofs.Common.{inl, inr, map}
-use Rattle.std.proofs.lemmas.Result.{IfOk-weaker}
+use Rattle.std.proofs.{Common.inl, Common.inr, Common.map, lemmas.Result.IfOk-weaker}
 use Rattle.filterset_entries.specs.Checked.{text_row}
 use Rattle.filterset_documents.specs.Contents.{ContentRow, content_row, names_in}
 use Rattle.filterset_server.proofs.language.FiltersetLanguageLanguage.respond.Goals as goal

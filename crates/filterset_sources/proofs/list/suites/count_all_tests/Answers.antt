@@ -1,7 +1,6 @@
 use Rattle.std.proofs.Common.{map}
 use Rattle.filterset_sources.specs.Suites.{IsCounted}
-use Rattle.filterset_sources.specs.declared.list.Suite.{Suite}
-use Rattle.filterset_sources.specs.declared.list.suites.ListedSuite.{ListedSuite}
+use Rattle.filterset_sources.specs.declared.list.{Suite.Suite, suites.ListedSuite.ListedSuite}
 use Rattle.filterset_sources.proofs.TestLemmas.{AllZip-push, test_row}
 use Rattle.filterset_sources.proofs.list.suites.count_all_tests.Goals as goal
 

@@ -1,17 +1,14 @@
 use Rattle.std.proofs.Common.{rules, ap, ◌∙◌, ◌≡◌, ℕ, List, Bor, map, take, length, arith}
-use Rattle.std.specs.Prelude.{option_map}
-use Rattle.std.specs.List.{filter_map}
+use Rattle.std.specs.{Prelude.option_map, List.filter_map}
 use Rattle.std.proofs.Math.Seq.{take-length}
 use Rattle.filterset_faults.specs.declared.error.ParseSingleError.TheVariants.{BannedPredicate}
 use Rattle.filterset_faults.specs.declared.span.SourceSpan.{SourceSpan}
 use Rattle.filterset_grammar.specs.Tree.{Leaf}
-use Rattle.filterset_language.specs.Views.{leaf_of}
-use Rattle.filterset_language.specs.declared.tree.ParsedLeaf.{ParsedLeaf}
+use Rattle.filterset_language.specs.{Views.leaf_of, declared.tree.ParsedLeaf.ParsedLeaf}
 use Rattle.nextest_filtering.specs.Bans.{ban}
-use Rattle.nextest_filtering.proofs.Banned.{fault_at}
-use Rattle.nextest_filtering.proofs.Filtered.{gathers_one, gathers_none}
-use Rattle.nextest_filtering.proofs.compile.bans.list_bans.Goals as goal
+use Rattle.nextest_filtering.proofs.{Banned.fault_at, Filtered.gathers_one, Filtered.gathers_none}
 use Rattle.nextest_filtering.proofs.compile.bans.list_bans.Goals.{in-Some+in_ok-push, in_default}
+use Rattle.nextest_filtering.proofs.compile.bans.list_bans.Goals as goal
 
 abbrev seen : Bor (ParsedLeaf SourceSpan) → Leaf SourceSpan
 seen leaf = leaf_of leaf.now

@@ -1,8 +1,7 @@
 use Rattle.std.proofs.Common.{◌≡◌, map, take, Bor}
 use Rattle.std.specs.List.{filter_map}
 use Rattle.filterset_faults.specs.declared.span.SourceSpan.{SourceSpan}
-use Rattle.filterset_language.specs.Views.{leaf_of}
-use Rattle.filterset_language.specs.declared.tree.ParsedLeaf.{ParsedLeaf}
+use Rattle.filterset_language.specs.{Views.leaf_of, declared.tree.ParsedLeaf.ParsedLeaf}
 use Rattle.nextest_filtering.specs.Bans.{ban}
 use Rattle.nextest_filtering.proofs.compile.bans.list_bans.Given as goal
 

@@ -1,15 +1,12 @@
 use Rattle.std.proofs.Common.{◌≡◌, ◌<◌, ℕ, List, [], Contains, get_or, length, map, sym, ◌∙◌, ap, subst, ⊎_elim, arith}
 use Rattle.std.specs.Str.Iter.{HasSubslice}
-use Rattle.std.proofs.lemmas.Bool.{cases_lt}
-use Rattle.std.proofs.lemmas.List.{get_or_default, length-map}
+use Rattle.std.proofs.lemmas.{Bool.cases_lt, List.get_or_default, List.length-map}
 use Rattle.std.proofs.lemmas.List.Elements.{Contains-append_left, Contains-append_right, Contains-append_cases}
 use Rattle.std.proofs.lemmas.Str.{IsUtf8-string_bytes}
 use Rattle.filterset_matchers.specs.Matchers.{matcher_of}
 use Rattle.regex_extract.specs.Needles.{AreFilled, needles_of}
-use Rattle.nextest_filtering.specs.Candidates.{AreContaining, OneStandsInNames}
-use Rattle.nextest_filtering.specs.Joined.{name_of}
-use Rattle.nextest_filtering.proofs.Members.{none_in}
-use Rattle.nextest_filtering.proofs.Patterns.{text_here}
+use Rattle.nextest_filtering.specs.{Candidates.AreContaining, Candidates.OneStandsInNames, Joined.name_of}
+use Rattle.nextest_filtering.proofs.{Members.none_in, Patterns.text_here}
 use Rattle.nextest_filtering.proofs.compile.candidates.list_candidates.Goals as goal
 
 pub loop-text-init : goal.loop-text-init

@@ -2,11 +2,9 @@ use Rattle.std.proofs.Common.{◌≡◌, ℕ, true, length, take, refl, sym, ◌
 use Rattle.std.specs.Prelude.{All}
 use Rattle.std.proofs.Math.Seq.{take-length}
 use Rattle.std.proofs.lemmas.List.Elements.{All-nil, All-more, All-same}
-use Rattle.filterset_matchers.specs.Matcher.{Matcher, MatchesName}
-use Rattle.filterset_matchers.specs.Matchers.{matcher_of}
+use Rattle.filterset_matchers.specs.{Matcher.Matcher, Matcher.MatchesName, Matchers.matcher_of}
 use Rattle.nextest_filtering.specs.Binaries.{NameAndId, name_and_id}
-use Rattle.nextest_filtering.specs.Compiling.{packages_of}
-use Rattle.nextest_filtering.specs.declared.compile.context.TestBinary.{TestBinary}
+use Rattle.nextest_filtering.specs.{Compiling.packages_of, declared.compile.context.TestBinary.TestBinary}
 use Rattle.nextest_filtering.proofs.Binaries.{is_kept, of_kept, matches_id, matches_no_id}
 use Rattle.nextest_filtering.proofs.Members.{here}
 use Rattle.nextest_filtering.proofs.compile.checks.matches_binary_id.Goals as goal

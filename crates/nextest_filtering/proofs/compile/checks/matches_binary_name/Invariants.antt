@@ -1,7 +1,6 @@
 use Rattle.std.proofs.Common.{◌≡◌, take}
 use Rattle.std.specs.Prelude.{All}
-use Rattle.filterset_matchers.specs.Matcher.{MatchesName}
-use Rattle.filterset_matchers.specs.Matchers.{matcher_of}
+use Rattle.filterset_matchers.specs.{Matcher.MatchesName, Matchers.matcher_of}
 use Rattle.nextest_filtering.specs.ReadyMatchers.{ready_matcher}
 use Rattle.nextest_filtering.proofs.compile.checks.matches_binary_name.Given as goal
 

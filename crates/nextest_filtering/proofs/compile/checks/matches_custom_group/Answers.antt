@@ -1,11 +1,8 @@
 use Rattle.std.proofs.Common.{◌≡◌, Bor, String, Global, length, map, refl, sym, ◌∙◌, subst, rules}
-use Rattle.std.specs.Prelude.{All, string_bytes}
-use Rattle.std.specs.HashSet.{keys}
-use Rattle.std.specs.Map.Iter.{deref}
+use Rattle.std.specs.{Prelude.All, Prelude.string_bytes, HashSet.keys, Map.Iter.deref}
 use Rattle.std.proofs.lemmas.Bool.{false≢true}
 use Rattle.std.proofs.lemmas.List.Elements.{All-nil, All-push, All-map, All-contains, All-same}
-use Rattle.std.proofs.lemmas.Map.Iter.{iter_turn, iter_end}
-use Rattle.std.proofs.lemmas.Option.{get_or_from_slice_get}
+use Rattle.std.proofs.lemmas.{Map.Iter.iter_turn, Map.Iter.iter_end, Option.get_or_from_slice_get}
 use Rattle.filterset_matchers.specs.Matcher.{Matcher, MatchesName}
 use Rattle.nextest_filtering.specs.ReadyMatchers.{ready_matcher}
 use Rattle.nextest_filtering.proofs.compile.checks.matches_custom_group.Goals as goal

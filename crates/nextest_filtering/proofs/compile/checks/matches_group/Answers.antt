@@ -1,14 +1,10 @@
 use Rattle.std.proofs.Common.{◌↔◌, sym, ◌∙◌, subst}
-use Rattle.std.specs.Prelude.{Any, IsTrue, codes, string_bytes}
-use Rattle.std.specs.HashSet.{keys}
-use Rattle.std.proofs.lemmas.Bool.{false≢true}
-use Rattle.std.proofs.lemmas.Result.{IfOk-weaker}
-use Rattle.filterset_matchers.specs.Matcher.{Matcher, MatchesName}
-use Rattle.filterset_matchers.specs.Matchers.{matcher_of}
-use Rattle.nextest_filtering.specs.Checks.{MatchesSomeName}
-use Rattle.nextest_filtering.specs.Groups.{IsGroupName}
-use Rattle.nextest_filtering.specs.declared.compile.context.KnownGroups.TheVariants as groups
+use Rattle.std.specs.{Prelude.Any, Prelude.IsTrue, Prelude.codes, Prelude.string_bytes, HashSet.keys}
+use Rattle.std.proofs.lemmas.{Bool.false≢true, Result.IfOk-weaker}
+use Rattle.filterset_matchers.specs.{Matcher.Matcher, Matcher.MatchesName, Matchers.matcher_of}
+use Rattle.nextest_filtering.specs.{Checks.MatchesSomeName, Groups.IsGroupName}
 use Rattle.nextest_filtering.proofs.Groups.{custom_match}
+use Rattle.nextest_filtering.specs.declared.compile.context.KnownGroups.TheVariants as groups
 use Rattle.nextest_filtering.proofs.compile.checks.matches_group.Goals as goal
 
 pub returns : goal.returns

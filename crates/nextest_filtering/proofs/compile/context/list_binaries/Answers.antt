@@ -1,8 +1,7 @@
 use Rattle.std.proofs.Common.{◌≡◌, ℕ, suc, ◌+◌, Bor, List, [], ◌∷◌, ◌++◌, length, map, take, sym, ◌∙◌, ap, arith}
 use Rattle.std.specs.List.{flat_map}
 use Rattle.std.proofs.Math.Seq.{take-length, take-suc}
-use Rattle.std.proofs.lemmas.Grind.{flat_map-append}
-use Rattle.std.proofs.lemmas.List.{map-append, append-nil}
+use Rattle.std.proofs.lemmas.{Grind.flat_map-append, List.map-append, List.append-nil}
 use Rattle.filterset_graph.specs.declared.package.PackageMetadata.{PackageMetadata}
 use Rattle.nextest_filtering.specs.Binaries.{NameAndId, binaries_of, name_and_id}
 use Rattle.nextest_filtering.proofs.compile.context.list_binaries.Goals as goal

@@ -1,11 +1,10 @@
 use Rattle.std.proofs.Common.{◌≡◌, ℕ, ◌+◌, Bor, List, [], ◌∷◌, ◌++◌, length, map, take, cond, refl, sym, ◌∙◌, ap, arith}
 use Rattle.std.proofs.Math.Seq.{take-length}
-use Rattle.std.proofs.lemmas.List.{map-append, append-nil}
-use Rattle.std.proofs.lemmas.List.Elements.{filter_more}
+use Rattle.std.proofs.lemmas.List.{map-append, append-nil, Elements.filter_more}
 use Rattle.filterset_graph.specs.declared.package.PackageMetadata.{PackageMetadata}
 use Rattle.nextest_filtering.specs.Binaries.{members_of}
-use Rattle.nextest_filtering.proofs.compile.context.list_members.Goals as goal
 use Rattle.nextest_filtering.proofs.compile.context.list_members.Goals.{then-package+in_ok-push, else-package}
+use Rattle.nextest_filtering.proofs.compile.context.list_members.Goals as goal
 
 abbrev seen : Bor PackageMetadata → PackageMetadata
 seen p = p.now

@@ -1,14 +1,12 @@
 use Rattle.std.proofs.Common.{◌≡◌, ℕ, ◌+◌, List, [], ◌∷◌, ◌++◌, length, map, take, sym, ◌∙◌, ap, append_assoc, arith, rules}
-use Rattle.std.specs.Prelude.{Option, Some, None, option_map}
-use Rattle.std.specs.List.{filter_map, cons_option}
-use Rattle.std.proofs.Math.Seq.{take-length}
-use Rattle.std.proofs.lemmas.List.{map-append, append-nil}
+use Rattle.std.specs.{Prelude.Option, Prelude.Some, Prelude.None, Prelude.option_map, List.filter_map, List.cons_option}
+use Rattle.std.proofs.{Math.Seq.take-length, lemmas.List.map-append, lemmas.List.append-nil}
 use Rattle.filterset_graph.specs.declared.package.BuildTarget.{BuildTarget}
 use Rattle.nextest_filtering.specs.Binaries.{NameAndId, name_and_id, binary_with, binary_of}
 use Rattle.nextest_filtering.specs.declared.compile.context.TestBinary.{TestBinary}
 use Rattle.nextest_filtering.proofs.Filtered.{next_chosen}
-use Rattle.nextest_filtering.proofs.compile.context.push_binaries.Goals as goal
 use Rattle.nextest_filtering.proofs.compile.context.push_binaries.Goals.{in-Some+in_ok-id+in_ok-push, in_default}
+use Rattle.nextest_filtering.proofs.compile.context.push_binaries.Goals as goal
 
 -- one more was added
 added : (old before : List NameAndId) (kept : List TestBinary) (binary : TestBinary) (o : Option NameAndId) → map name_and_id kept ≡ old ++ before → o ≡ Some (name_and_id binary)

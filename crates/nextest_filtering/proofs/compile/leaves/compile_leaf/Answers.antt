@@ -1,17 +1,14 @@
-use Rattle.std.proofs.Common.{◌≢◌, [], IsTrue, refl}
-use Rattle.std.proofs.lemmas.Result.{on_ok_weaker}
+use Rattle.std.proofs.{Common.◌≢◌, Common.[], Common.IsTrue, Common.refl, lemmas.Result.on_ok_weaker}
 use Rattle.filterset_faults.specs.declared.error.ParseSingleError.TheVariants.{NoPackageMatch, NoBinaryNameMatch, NoBinaryIdMatch, NoGroupMatch}
 use Rattle.filterset_graph.specs.Binaries.{IsBinaryId, IsBinaryName}
 use Rattle.filterset_graph.specs.declared.package.PackageMetadata.{PackageMetadata}
 use Rattle.filterset_grammar.specs.Tree.{Matching}
 use Rattle.filterset_grammar.specs.declared.predicate.Predicate.TheVariants.{Package, Deps, Rdeps, Binary, BinaryId, Group}
 use Rattle.filterset_matchers.specs.Matchers.{matcher_of}
-use Rattle.nextest_filtering.specs.Checks.{MatchesSomeName}
-use Rattle.nextest_filtering.specs.Compiling.{packages_of}
-use Rattle.nextest_filtering.specs.Groups.{IsGroupName}
-use Rattle.filterset_expression.specs.Meaning.{IsNamed}
+use Rattle.nextest_filtering.specs.{Checks.MatchesSomeName, Compiling.packages_of, Groups.IsGroupName}
 use Rattle.nextest_filtering.proofs.PackageSets.{some_named, some_dependency, some_dependent}
 use Rattle.nextest_filtering.proofs.Unmatched.{adds_one, kept_away}
+use Rattle.filterset_expression.specs.Meaning.{IsNamed}
 use Rattle.nextest_filtering.proofs.compile.leaves.compile_leaf.Goals as goal
 
 pub returns-in_ok-select_named-in-Package-clause-unmatched : goal.returns-in_ok-select_named-in-Package-clause-unmatched

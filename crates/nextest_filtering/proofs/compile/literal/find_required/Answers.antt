@@ -3,8 +3,7 @@ use Rattle.regex.specs.Patterns.{Reads, default_config}
 use Rattle.regex_extract.specs.Needles.{ContainsNeedle, needles_of}
 use Rattle.regex_hir.specs.Meaning.{meaning}
 use Rattle.regex_syntax.specs.Grammar.{read}
-use Rattle.filterset_matchers.proofs.PatternLemmas.{IsSomeAnd-map}
-use Rattle.filterset_matchers.proofs.TextParts.{HasTextParts-of_tree}
+use Rattle.filterset_matchers.proofs.{PatternLemmas.IsSomeAnd-map, TextParts.HasTextParts-of_tree}
 use Rattle.filterset_matchers.specs.Compiled.{IsReadAs}
 use Rattle.nextest_filtering.proofs.Patterns.{needles_stand}
 use Rattle.nextest_filtering.proofs.compile.literal.find_required.Goals as goal

@@ -1,8 +1,7 @@
 use Rattle.std.proofs.Common.{◌≡◌, [], append-nil, sym, ◌∙◌, subst, string_bytes}
 use Rattle.std.specs.Str.Iter.{HasSubslice}
 use Rattle.filterset_matchers.proofs.Literals.{stands_in_name}
-use Rattle.filterset_matchers.specs.Literals.{StandsInEach}
-use Rattle.filterset_matchers.specs.Matchers.{matcher_of}
+use Rattle.filterset_matchers.specs.{Literals.StandsInEach, Matchers.matcher_of}
 use Rattle.nextest_filtering.proofs.Patterns.{alone_stands}
 use Rattle.nextest_filtering.proofs.compile.literal.find_texts.Goals as goal
 

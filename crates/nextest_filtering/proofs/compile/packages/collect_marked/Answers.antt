@@ -2,12 +2,11 @@ use Rattle.std.proofs.Common.{rules, ◌≡◌, ◌<◌, length, refl, ap, sym, 
 use Rattle.std.specs.Prelude.{Some, slice_get}
 use Rattle.std.proofs.lemmas.Grind.{common_steps}
 use Rattle.std.proofs.lemmas.Option.{slice_get_within, slice_get-get_or, same_Some, gets}
-use Rattle.filterset_graph.specs.Walks.{IsMarked}
-use Rattle.filterset_graph.specs.declared.package.PackageMetadata.{PackageMetadata}
+use Rattle.filterset_graph.specs.{Walks.IsMarked, declared.package.PackageMetadata.PackageMetadata}
 use Rattle.nextest_filtering.specs.PackageMarks.{IsMarkedMemberAt}
 use Rattle.nextest_filtering.proofs.PackageSets.{none_given, one_pushed, passed_over, all_given, collected}
-use Rattle.nextest_filtering.proofs.compile.packages.collect_marked.Goals as goal
 use Rattle.nextest_filtering.proofs.compile.packages.collect_marked.Goals.{then-marks-index+then-package+in_ok-try_clone+in_ok-push, else-marks-index, else-marks-index-via-then-marks-index+else-package, else-marks-index-via-else-marks-index}
+use Rattle.nextest_filtering.proofs.compile.packages.collect_marked.Goals as goal
 
 pub loop-index-init : goal.loop-index-init
 loop-index-init c = none_given (IsMarkedMemberAt c.args.packages.now c.args.marks.now) c.new-ids.result.items c.new-ids.ensures.items

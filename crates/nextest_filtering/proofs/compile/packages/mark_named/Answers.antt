@@ -2,13 +2,11 @@ use Rattle.std.proofs.Common.{rules, ◌≡◌, ◌<◌, ◌↔◌, ◌+◌, ℕ
 use Rattle.std.specs.Prelude.{Some, Contains, IsTrue, slice_get}
 use Rattle.std.proofs.lemmas.Option.{slice_get_within, slice_get-get_or}
 use Rattle.filterset_expression.proofs.PackageIds.{found_exactly}
-use Rattle.filterset_graph.specs.Packages.{AllDiffer, ids}
-use Rattle.filterset_graph.specs.Walks.{IsMarked}
-use Rattle.filterset_graph.specs.declared.package.PackageMetadata.{PackageMetadata}
 use Rattle.filterset_expression.specs.Meaning.{IsPackage}
+use Rattle.filterset_graph.specs.Packages.{AllDiffer, ids}
+use Rattle.filterset_graph.specs.{Walks.IsMarked, declared.package.PackageMetadata.PackageMetadata}
 use Rattle.filterset_matchers.specs.Matchers.{matcher_of}
-use Rattle.nextest_filtering.specs.Compiling.{packages_of}
-use Rattle.nextest_filtering.specs.PackageMarks.{IsNamedAt, MarksNamed}
+use Rattle.nextest_filtering.specs.{Compiling.packages_of, PackageMarks.IsNamedAt, PackageMarks.MarksNamed}
 use Rattle.nextest_filtering.proofs.PackageSets.{marked_one_more, named_by_id}
 use Rattle.nextest_filtering.proofs.compile.packages.mark_named.Goals as goal
 

@@ -2,12 +2,11 @@ use Rattle.std.proofs.Common.{rules, ◌≡◌, ◌<◌, Bor, length, refl, sym,
 use Rattle.std.specs.Prelude.{Some, slice_get, string_bytes}
 use Rattle.std.proofs.lemmas.Option.{slice_get_within, slice_get-get_or, same_Some}
 use Rattle.filterset_graph.specs.declared.package.PackageMetadata.{PackageMetadata}
-use Rattle.filterset_matchers.specs.Matcher.{Matcher, MatchesName}
-use Rattle.filterset_matchers.specs.Matchers.{matcher_of}
+use Rattle.filterset_matchers.specs.{Matcher.Matcher, Matcher.MatchesName, Matchers.matcher_of}
 use Rattle.nextest_filtering.specs.PackageMarks.{IsMatchAt}
 use Rattle.nextest_filtering.proofs.PackageSets.{none_given, one_pushed, passed_over, all_given, collected}
-use Rattle.nextest_filtering.proofs.compile.packages.select_among.Goals as goal
 use Rattle.nextest_filtering.proofs.compile.packages.select_among.Goals.{then-branch+in_ok-try_clone+in_ok-push, else-branch}
+use Rattle.nextest_filtering.proofs.compile.packages.select_among.Goals as goal
 
 pub loop-package-init : goal.loop-package-init
 loop-package-init c =

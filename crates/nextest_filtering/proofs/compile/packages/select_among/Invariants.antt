@@ -1,7 +1,6 @@
 use Rattle.std.proofs.Common.{◌≡◌, ◌↔◌, ℕ, Contains, List}
 use Rattle.filterset_matchers.specs.Matchers.{matcher_of}
-use Rattle.nextest_filtering.specs.ReadyMatchers.{ready_matcher}
-use Rattle.nextest_filtering.specs.PackageMarks.{IsMatchAt}
+use Rattle.nextest_filtering.specs.{ReadyMatchers.ready_matcher, PackageMarks.IsMatchAt}
 use Rattle.nextest_filtering.proofs.PackageSets.{IsGivenBefore}
 use Rattle.nextest_filtering.proofs.compile.packages.select_among.Given as goal
 

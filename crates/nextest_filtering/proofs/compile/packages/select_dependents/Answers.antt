@@ -1,12 +1,10 @@
 use Rattle.std.proofs.Common.{◌≡◌, ◌↔◌, ℕ, Bool, Contains, List, ◌∙◌, subst}
 use Rattle.std.proofs.lemmas.Result.{IfOk-weaker}
-use Rattle.filterset_graph.specs.Marked.{MarksReaching}
-use Rattle.filterset_graph.specs.Packages.{AllDiffer, ids}
+use Rattle.filterset_graph.specs.{Marked.MarksReaching, Packages.AllDiffer, Packages.ids}
 use Rattle.filterset_graph.specs.declared.package.PackageMetadata.{PackageMetadata}
 use Rattle.filterset_matchers.specs.Matchers.{matcher_of}
-use Rattle.nextest_filtering.specs.Compiling.{packages_of}
+use Rattle.nextest_filtering.specs.{Compiling.packages_of, PackageMarks.IsMarkedMember}
 use Rattle.filterset_expression.specs.Meaning.{IsDependent}
-use Rattle.nextest_filtering.specs.PackageMarks.{IsMarkedMember}
 use Rattle.nextest_filtering.proofs.PackageSets as sets
 use Rattle.nextest_filtering.proofs.compile.packages.select_dependents.Goals as goal
 

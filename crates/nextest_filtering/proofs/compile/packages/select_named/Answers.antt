@@ -1,7 +1,6 @@
 use Rattle.std.proofs.lemmas.Result.{IfOk-weaker}
 use Rattle.filterset_matchers.specs.Matchers.{matcher_of}
-use Rattle.nextest_filtering.specs.Candidates.{AreCandidates}
-use Rattle.nextest_filtering.specs.Compiling.{packages_of}
+use Rattle.nextest_filtering.specs.{Candidates.AreCandidates, Compiling.packages_of}
 use Rattle.nextest_filtering.proofs.PackageSets.{match_candidates, match_members}
 use Rattle.nextest_filtering.proofs.compile.packages.select_named.Goals as goal
 

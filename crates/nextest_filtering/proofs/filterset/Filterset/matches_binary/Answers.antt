@@ -3,8 +3,7 @@ use Rattle.std.proofs.lemmas.Result.{IfOk-weaker}
 use Rattle.filterset_graph.specs.declared.package.PackageMetadata.{PackageMetadata}
 use Rattle.filterset_language.specs.Views.{tree_of}
 use Rattle.filterset_expression.specs.BinaryMeaning.{IsDefiniteTree, IsUndecidedTree}
-use Rattle.filterset_expression.specs.Contexts.{default_of}
-use Rattle.filterset_expression.specs.Meaning.{IsCompiled}
+use Rattle.filterset_expression.specs.{Contexts.default_of, Meaning.IsCompiled}
 use Rattle.filterset_expression.proofs.BinaryMeanings.{compiled_definite, compiled_undecided}
 use Rattle.nextest_filtering.proofs.filterset.Filterset.matches_binary.Goals as goal
 

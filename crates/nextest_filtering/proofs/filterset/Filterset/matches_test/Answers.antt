@@ -1,11 +1,8 @@
-use Rattle.std.proofs.Common.{◌↔◌, List, IsTrue}
-use Rattle.std.proofs.lemmas.Result.{IfOk-weaker}
+use Rattle.std.proofs.{Common.◌↔◌, Common.List, Common.IsTrue, lemmas.Result.IfOk-weaker}
 use Rattle.filterset_graph.specs.declared.package.PackageMetadata.{PackageMetadata}
-use Rattle.filterset_expression.specs.Contexts.{default_of}
-use Rattle.filterset_expression.specs.Expression.{no_groups}
-use Rattle.filterset_expression.specs.Meaning.{IsCompiled, Meaning}
-use Rattle.filterset_language.specs.Views.{tree_of}
+use Rattle.filterset_expression.specs.{Contexts.default_of, Expression.no_groups, Meaning.IsCompiled, Meaning.Meaning}
 use Rattle.filterset_expression.proofs.Meanings.{compiled_means}
+use Rattle.filterset_language.specs.Views.{tree_of}
 use Rattle.nextest_filtering.proofs.filterset.Filterset.matches_test.Goals as goal
 
 pub returns-clause-meaning : goal.returns-clause-meaning

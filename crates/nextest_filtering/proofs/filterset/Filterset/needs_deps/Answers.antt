@@ -1,5 +1,4 @@
-use Rattle.std.proofs.Common.{codes}
-use Rattle.std.proofs.lemmas.Str.Pattern.{contains_text}
+use Rattle.std.proofs.{Common.codes, lemmas.Str.Pattern.contains_text}
 use Rattle.nextest_filtering.proofs.DepsAreNamed.{deps_are_named}
 use Rattle.nextest_filtering.proofs.filterset.Filterset.needs_deps.Goals as goal
 

@@ -1,13 +1,11 @@
 use Rattle.std.proofs.Common.{◌∙◌, rules, string_bytes, subst, IsUtf8}
 use Rattle.filterset_faults.specs.declared.kind.FiltersetKind.{FiltersetKind}
 use Rattle.filterset_language.specs.Views.{tree_of}
-use Rattle.nextest_filtering.specs.Bans.{IsAllowed}
-use Rattle.nextest_filtering.specs.Compiling.{packages_of, IsRefusedWith}
-use Rattle.nextest_filtering.proofs.Banned.{no_default, no_group}
+use Rattle.nextest_filtering.specs.{Bans.IsAllowed, Compiling.packages_of, Compiling.IsRefusedWith}
+use Rattle.nextest_filtering.proofs.{Banned.no_default, Banned.no_group, FaultsOfTrees.refused_stand}
+use Rattle.nextest_filtering.proofs.Refusals.{of_tree, of_filterset}
 use Rattle.filterset_expression.proofs.BinaryMeanings.{tells_the_same}
 use Rattle.filterset_expression.proofs.Meanings.{says_the_same, same_defaults, same_groups}
-use Rattle.nextest_filtering.proofs.FaultsOfTrees.{refused_stand}
-use Rattle.nextest_filtering.proofs.Refusals.{of_tree, of_filterset}
 use Rattle.nextest_filtering.proofs.filterset.Filterset.parse.Goals as goal
 
 pub returns-in-Ok-clause-meaning : goal.returns-in-Ok-clause-meaning

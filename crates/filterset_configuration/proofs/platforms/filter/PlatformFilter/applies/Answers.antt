@@ -1,6 +1,5 @@
 use Rattle.std.proofs.Common.{◌≡◌}
-use Rattle.filterset_configuration.specs.PlatformTrees.{facts_of}
-use Rattle.filterset_configuration.specs.PlatformValues.{applies}
+use Rattle.filterset_configuration.specs.{PlatformTrees.facts_of, PlatformValues.applies}
 use Rattle.filterset_configuration.proofs.PlatformTruth.{filter_sound}
 use Rattle.filterset_configuration.proofs.platforms.filter.PlatformFilter.applies.Goals as goal
 

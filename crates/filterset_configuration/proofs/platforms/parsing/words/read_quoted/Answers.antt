@@ -1,6 +1,5 @@
-use Rattle.std.proofs.lemmas.Str.Pattern.{split_parts}
+use Rattle.std.proofs.{lemmas.Str.Pattern.split_parts, Common.lit<}
 use Rattle.filterset_configuration.proofs.PlatformWords.{quoted_found, quoted_rest}
-use Rattle.std.proofs.Common.{lit<}
 use Rattle.filterset_configuration.proofs.platforms.parsing.words.read_quoted.Goals as goal
 
 pub returns-clause-found : goal.returns-clause-found

@@ -1,6 +1,5 @@
 use Rattle.std.proofs.Common.{◌≡◌}
-use Rattle.filterset_configuration.specs.PlatformTrees.{facts_of, spec_of}
-use Rattle.filterset_configuration.specs.PlatformValues.{spec_value}
+use Rattle.filterset_configuration.specs.{PlatformTrees.facts_of, PlatformTrees.spec_of, PlatformValues.spec_value}
 use Rattle.filterset_configuration.proofs.PlatformTruth.{spec_known, spec_sound}
 use Rattle.filterset_configuration.proofs.platforms.specification.PlatformSpec.applies.Goals as goal
 

@@ -1,6 +1,5 @@
-use Rattle.std.proofs.Common.{◌↔◌}
+use Rattle.std.proofs.{Common.◌↔◌, lemmas.Result.IfOk-weaker}
 use Rattle.std.specs.Bool.{IsTrue}
-use Rattle.std.proofs.lemmas.Result.{IfOk-weaker}
 use Rattle.filterset_expression.specs.Expression.{compiled_leaf, HoldsOfTest}
 use Rattle.filterset_expression.proofs.LeafAnswers.{no_group, decides_with_groups}
 use Rattle.filterset_expression.proofs.flat.asked.AskedLeaf.matches_otherwise.Goals as goal

@@ -1,7 +1,5 @@
 use Rattle.std.proofs.Common.{◌<◌, ◌^◌, w8, leb, get_or, arith}
-use Rattle.std.proofs.lemmas.Bool.{leb-true, le-leb}
-use Rattle.std.proofs.lemmas.Simd.{Each1-get_or, below_from_Fits}
-use Rattle.std.proofs.lemmas.Nat.Bits.{bit_at_ones}
+use Rattle.std.proofs.lemmas.{Bool.leb-true, Bool.le-leb, Simd.Each1-get_or, Simd.below_from_Fits, Nat.Bits.bit_at_ones}
 use Rattle.filterset_glob.proofs.LaneSets.{bit_of_splat}
 use Rattle.filterset_glob.proofs.lanes.bytes.U8x64Block.find_at_most.Goals as goal
 

@@ -1,5 +1,4 @@
-use Rattle.std.proofs.Common.{w32, leb}
-use Rattle.std.proofs.lemmas.Bool.{leb-true, le-leb}
+use Rattle.std.proofs.{Common.w32, Common.leb, lemmas.Bool.leb-true, lemmas.Bool.le-leb}
 use Rattle.filterset_glob.proofs.LaneSets.{bit_of_splat_left}
 use Rattle.filterset_glob.proofs.lanes.numbers.NumbersBlock.find_at_least.Goals as goal
 

@@ -1,5 +1,4 @@
-use Rattle.std.proofs.Common.{refl}
-use Rattle.std.proofs.lemmas.Str.{IsCharBoundary-start}
+use Rattle.std.proofs.{Common.refl, lemmas.Str.IsCharBoundary-start}
 use Rattle.filterset_language.proofs.parsing.input.Input.new.Goals as goal
 
 pub invariant_of-result-clause-skipped : goal.invariant_of-result-clause-skipped

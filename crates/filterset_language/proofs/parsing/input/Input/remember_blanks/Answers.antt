@@ -1,9 +1,7 @@
 use Rattle.std.proofs.Common.{◌≡◌, ℕ, ◌+◌, ◌-◌, List, length, drop, IsUtf8, IsCharBoundary, sym, ap, ◌∙◌, subst, arith}
-use Rattle.std.proofs.lemmas.List.{drop_at}
-use Rattle.std.proofs.lemmas.Str.{IsUtf8-from_is_utf8, IsCharBoundary-at_seam}
+use Rattle.std.proofs.lemmas.{List.drop_at, Str.IsUtf8-from_is_utf8, Str.IsCharBoundary-at_seam}
 use Rattle.filterset_language.specs.Parsing.Seam.{Position, position, skip_from, AreBlanks}
-use Rattle.filterset_language.proofs.Positions.{skip_stop}
-use Rattle.filterset_language.proofs.StepsTakeText.{Skipped, skip_takes}
+use Rattle.filterset_language.proofs.{Positions.skip_stop, StepsTakeText.Skipped, StepsTakeText.skip_takes}
 use Rattle.filterset_language.proofs.parsing.input.Input.remember_blanks.Goals as goal
 
 -- the blanks between a position and the one after them

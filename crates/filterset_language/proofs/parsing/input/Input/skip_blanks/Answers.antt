@@ -1,6 +1,5 @@
 use Rattle.std.proofs.Common.{ap, sym, ◌∙◌, arith}
-use Rattle.filterset_language.specs.Parsing.Front.{blank_len}
-use Rattle.filterset_language.specs.Parsing.Position.{skip}
+use Rattle.filterset_language.specs.Parsing.{Front.blank_len, Position.skip}
 use Rattle.filterset_language.proofs.Positions.{skip_step, skip_stop, blank_boundary, AtOrBehind-then}
 use Rattle.filterset_language.proofs.parsing.input.Input.skip_blanks.Goals as goal
 

@@ -1,8 +1,7 @@
 use Rattle.std.proofs.Common.{length, arith, inl, inr, ⊎_elim}
 use Rattle.filterset_language.specs.Views.{tree_of}
 use Rattle.filterset_language.proofs.SpelledIsRead.{whole_again}
-use Rattle.filterset_language.proofs.ReadIsSpelled.{whole_takes, front_takes_whole}
-use Rattle.filterset_language.proofs.Recovering.{if_ok}
+use Rattle.filterset_language.proofs.{ReadIsSpelled.whole_takes, ReadIsSpelled.front_takes_whole, Recovering.if_ok}
 use Rattle.filterset_language.proofs.WholeTextReading.{spelled_whole, none_seen}
 use Rattle.filterset_language.proofs.parsing.parse.ParsedExpr.parse_with_faults.Goals as goal
 

@@ -1,6 +1,5 @@
 use Rattle.std.proofs.Common.{refl, sym, true}
-use Rattle.std.proofs.lemmas.List.{take_all}
-use Rattle.std.proofs.lemmas.Map.Text.{btree_map_updates_str}
+use Rattle.std.proofs.lemmas.{List.take_all, Map.Text.btree_map_updates_str}
 use Rattle.filterset_listing.specs.Listing.{tests_of, unknown_of}
 use Rattle.filterset_listing.specs.declared.groups.TestAnswer.TheVariants.{Known, Unknown}
 use Rattle.filterset_listing.specs.declared.listing.json.TestMark.TheVariants.{Asked, Uncounted}

@@ -1,7 +1,5 @@
 use Rattle.std.proofs.Common.{[], List, map, take}
-use Rattle.filterset_listing.specs.Asking.{Text}
-use Rattle.filterset_listing.specs.ListJson.{AreAnswers}
-use Rattle.filterset_listing.specs.Listing.{tests_of, unknown_of}
+use Rattle.filterset_listing.specs.{Asking.Text, ListJson.AreAnswers, Listing.tests_of, Listing.unknown_of}
 use Rattle.filterset_listing.specs.declared.listing.UnknownTest.{UnknownTest}
 use Rattle.filterset_listing.proofs.listing.json.Answers.put.Given as goal
 

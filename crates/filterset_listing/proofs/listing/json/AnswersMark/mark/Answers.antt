@@ -1,6 +1,5 @@
 use Rattle.std.proofs.Common.{rules, ◌≡◌, ◌∙◌, ap, codes, string_bytes}
-use Rattle.serde_json.specs.Data.{put}
-use Rattle.serde_json.specs.View.{members_view, view}
+use Rattle.serde_json.specs.{Data.put, View.members_view, View.view}
 use Rattle.serde_json.proofs.Views.{members_view-insert_entry}
 use Rattle.filterset_listing.specs.ListJson.{answer_in, match_data}
 use Rattle.filterset_listing.proofs.MarkingLemmas.{marked_object, marked_other}

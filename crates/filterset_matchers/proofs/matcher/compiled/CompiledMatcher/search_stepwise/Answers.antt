@@ -1,6 +1,5 @@
 use Rattle.std.proofs.Common.{◌≡◌, ℕ, ◌<◌, get_or, is_some, sym, ◌∙◌, arith}
-use Rattle.regex_hir.specs.Find.{find}
-use Rattle.regex_hir.specs.Meaning.{meaning}
+use Rattle.regex_hir.specs.{Find.find, Meaning.meaning}
 use Rattle.filterset_matchers.proofs.CompiledLemmas.{HasMatch-of_compiled, stepwise_finds}
 use Rattle.filterset_matchers.proofs.PatternLemmas.{are_bytes}
 use Rattle.filterset_matchers.proofs.matcher.compiled.CompiledMatcher.search_stepwise.Goals as goal

@@ -1,7 +1,6 @@
-use Rattle.std.proofs.Common.{sym, subst}
+use Rattle.std.proofs.{Common.sym, Common.subst, lemmas.Bool.false≢true}
 use Rattle.std.specs.Str.{chars}
 use Rattle.filterset_glob.specs.Matching.{Matches}
-use Rattle.std.proofs.lemmas.Bool.{false≢true}
 use Rattle.filterset_matchers.proofs.Literals.{stands_in_name}
 use Rattle.filterset_matchers.proofs.matcher.glob.GlobMatcher.is_match.Goals as goal
 

@@ -1,5 +1,4 @@
-use Rattle.std.proofs.Common.{◌∙◌, ap, sym}
-use Rattle.std.proofs.lemmas.Slice.Eq.{bytes_eq-Decides}
+use Rattle.std.proofs.{Common.◌∙◌, Common.ap, Common.sym, lemmas.Slice.Eq.bytes_eq-Decides}
 use Rattle.filterset_glob.specs.Glob.{Glob}
 use Rattle.filterset_matchers.proofs.Literals.{one_glob}
 use Rattle.filterset_matchers.proofs.matcher.glob.GlobMatcher.is_of.Goals as goal

@@ -1,7 +1,6 @@
 use Rattle.std.proofs.Common.{◌≢◌, string_bytes}
 use Rattle.filterset_matchers.specs.Pattern.{MayBeRejected}
-use Rattle.filterset_matchers.specs.declared.matcher.pattern.PatternRefusal.{PatternRefusal}
-use Rattle.filterset_matchers.specs.declared.matcher.pattern.PatternRefusal.TheVariants.{NotBuilt}
+use Rattle.filterset_matchers.specs.declared.matcher.pattern.PatternRefusal.{PatternRefusal, TheVariants.NotBuilt}
 use Rattle.filterset_matchers.proofs.PatternLemmas.{IsPattern-of_searched, handed_on}
 use Rattle.filterset_matchers.proofs.PlainLemmas.{not_plain}
 use Rattle.filterset_matchers.proofs.matcher.pattern.PatternRegex.new.Goals as goal

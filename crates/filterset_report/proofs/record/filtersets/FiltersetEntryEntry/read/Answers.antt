@@ -1,6 +1,5 @@
 use Rattle.std.proofs.Common.{◌≡◌, ◌∙◌, codes, inl, inr, sym}
-use Rattle.serde_json.specs.Data.{Data, Members, object, string}
-use Rattle.serde_json.specs.View.{view}
+use Rattle.serde_json.specs.{Data.Data, Data.Members, Data.object, Data.string, View.view}
 use Rattle.filterset_json.specs.Shape.{Required}
 use Rattle.filterset_json.proofs.RefusalLemmas.{handed_on}
 use Rattle.filterset_report.specs.Record.{FiltersetRow, IsFilterset, IsFiltersetKind}

@@ -1,13 +1,10 @@
 use Rattle.std.proofs.Common.{rules, ◌≡◌, [], ap, arith, inr, map, ◌∙◌}
 use Rattle.std.specs.Prelude.{codes}
 use Rattle.serde_json.specs.View.{view}
-use Rattle.filterset_json.specs.Paths.{joined, key_text}
-use Rattle.filterset_json.specs.Places.{Place}
-use Rattle.filterset_json.specs.Shape.{Text}
+use Rattle.filterset_json.specs.{Paths.joined, Paths.key_text, Places.Place, Shape.Text}
 use Rattle.filterset_json.proofs.RefusalLemmas.{Names-whole, handed_on}
 use Rattle.filterset_sources.specs.Suites.{IsListedUnder}
-use Rattle.filterset_sources.proofs.ShapeLemmas.{Names-by}
-use Rattle.filterset_sources.proofs.TestLemmas.{test_row}
+use Rattle.filterset_sources.proofs.{ShapeLemmas.Names-by, TestLemmas.test_row}
 use Rattle.filterset_sources.proofs.list.suites.ListedSuiteMember.read_under.Goals as goal
 
 pub returns-in_err-listed-clause-refused : goal.returns-in_err-listed-clause-refused

@@ -1,5 +1,4 @@
-use Rattle.std.proofs.Common.{inl, inr}
-use Rattle.std.proofs.lemmas.Result.{err_from_is_err_and}
+use Rattle.std.proofs.{Common.inl, Common.inr, lemmas.Result.err_from_is_err_and}
 use Rattle.serde_json.specs.View.{view}
 use Rattle.filterset_json.proofs.RefusalLemmas.{handed_on}
 use Rattle.filterset_sources.specs.Metadata.{IsParts}

@@ -1,14 +1,12 @@
 use Rattle.std.proofs.Common.{◌≡◌, ◌∙◌, ◌∷◌, [], ℕ, Bor, Contains, List, false, true, length, subst, sym, ⊎_elim, arith}
 use Rattle.std.specs.Str.Iter.{HasSubslice}
-use Rattle.std.proofs.lemmas.Bool.{cases_lt}
-use Rattle.std.proofs.lemmas.List.{get_or_default}
+use Rattle.std.proofs.lemmas.{Bool.cases_lt, List.get_or_default}
 use Rattle.std.proofs.lemmas.List.Elements.{Contains-append_left, Contains-push, Contains-push_cases}
 use Rattle.filterset_graph.specs.declared.package.PackageMetadata.{PackageMetadata}
-use Rattle.nextest_filtering.specs.Hits.{IsAt, IsNextHit, NoneHas}
-use Rattle.nextest_filtering.specs.Joined.{name_of}
+use Rattle.nextest_filtering.specs.{Hits.IsAt, Hits.IsNextHit, Hits.NoneHas, Joined.name_of}
 use Rattle.nextest_filtering.proofs.NameHits.{all_past}
-use Rattle.nextest_filtering.proofs.compile.members.Members.list_containing.Goals as goal
 use Rattle.nextest_filtering.proofs.compile.members.Members.list_containing.Goals.{then-hit+in_ok-push, else-hit}
+use Rattle.nextest_filtering.proofs.compile.members.Members.list_containing.Goals as goal
 
 pub loop-hit-init : goal.loop-hit-init
 loop-hit-init c = record {

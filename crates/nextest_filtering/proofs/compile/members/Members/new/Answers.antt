@@ -1,6 +1,5 @@
 use Rattle.std.proofs.Common.{◌≡◌, ◌+◌, ◌∷◌, ◌++◌, [], ◌∙◌, ap, sym, length, string_bytes, take, arith}
-use Rattle.nextest_filtering.specs.Hits.{IsAt}
-use Rattle.nextest_filtering.specs.Joined.{ends_of, joined, offset}
+use Rattle.nextest_filtering.specs.{Hits.IsAt, Joined.ends_of, Joined.joined, Joined.offset}
 use Rattle.nextest_filtering.proofs.NameHits.{ends_more, first_more}
 use Rattle.nextest_filtering.proofs.compile.members.Members.new.Goals as goal
 
