@@ -45,25 +45,6 @@ pub struct AskedWorkspace<'a, 'w> {
     pub suites: &'a [Suite],
 }
 
-impl<'a, 'w> AskedWorkspace<'a, 'w> {
-    /// Puts a request and the parts of a workspace together.
-    pub fn new(
-        request: &'a WorkspaceRequest<'w>,
-        graph: &'a PackageGraph,
-        suites: &'a [Suite],
-    ) -> AskedWorkspace<'a, 'w>
-        ensures request { result.request.now ≡ request.entry.now }
-        ensures graph { result.graph.now ≡ graph.entry.now }
-        ensures suites { result.suites.now ≡ suites.entry.now }
-    {
-        AskedWorkspace {
-            request,
-            graph,
-            suites,
-        }
-    }
-}
-
 /// Answers what is asked of binaries under a setting. `kept` is nextest's list, if the answer has its shape. The fault names
 /// the list at the path `list`.
 fn answer_asked(
@@ -198,7 +179,11 @@ pub fn ask<F: FileSource>(
         (IsAskedFault (F.content files.now) (F.fails files.now) request.now)) }
 {
     let Workspace { graph, list, value } = read_workspace(alloc, files, &request.paths)?;
-    let asked = AskedWorkspace::new(request, &graph, list.suites.as_slice());
+    let asked = AskedWorkspace {
+        request,
+        graph: &graph,
+        suites: list.suites.as_slice(),
+    };
     let given = given_default(alloc, request)?;
     match request.profile {
         None => ask_plainly(alloc, &asked, given, kept_of(request.form, value)),

@@ -6,7 +6,7 @@ ghost use Rattle.filterset_sources.specs.Configurations.{IsConfiguration, Refuse
 ghost use Rattle.filterset_sources.specs.declared.configuration.Configuration as configurations;
 ghost use Rattle.filterset_asking.specs.Checking.{AnswersCheck, ChecksAll, ChecksKnown, HasAsked, IsCheckFault, IsUnchecked, KnownConfiguration, LacksAsked, file_name};
 ghost use Rattle.filterset_asking.specs.Warned.{request_after};
-ghost use Rattle.filterset_loading.specs.{Configurations.HasNamed, Files.BySource, Files.IsFileFault, Files.OrMemory};
+ghost use Rattle.filterset_loading.specs.Files.{BySource, IsFileFault, OrMemory};
 
 use crate::configured::warn_configuration;
 use crate::values::add_values;
@@ -96,20 +96,6 @@ fn request_after<'w>(
     }
 }
 
-/// Finds the profile of a name in the configuration at a path, which has this text.
-fn find_named(alloc: Global, path: &str, name: &str, text: &str) -> Result<(), CommandFault>
-    requires { (c : configurations.Configuration) × IsConfiguration text.now c }
-    ensures found { OnOk result (HasNamed text.now name.now) }
-    ensures refused { IfErr result (OrMemory (LacksAsked path.now name.now text.now)) }
-{
-    let profiles = profiles_in(alloc, path, text)?;
-    let request = request_of(path, name);
-    match lineage_of(alloc, &request, profiles.as_slice()) {
-        Ok(_) => Ok(()),
-        Err(fault) => Err(fault),
-    }
-}
-
 /// Finds the profile of the configuration, which has this text, if it has no wrong values.
 fn find_asked(
     alloc: Global,
@@ -123,9 +109,14 @@ fn find_asked(
     ensures refused { IfErr result (OrMemory (λ fault. IsSomeAnd paths.now.configuration
         (λ path. LacksAsked path.now paths.now.profile.now text.now fault))) }
 {
-    match (values, paths.configuration) {
-        ([], Some(path)) => find_named(alloc, path, paths.profile, text),
-        _ => Ok(()),
+    let ([], Some(path)) = (values, paths.configuration) else {
+        return Ok(());
+    };
+    let profiles = profiles_in(alloc, path, text)?;
+    let request = request_of(path, paths.profile);
+    match lineage_of(alloc, &request, profiles.as_slice()) {
+        Ok(_) => Ok(()),
+        Err(fault) => Err(fault),
     }
 }
 

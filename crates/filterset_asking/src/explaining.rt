@@ -38,16 +38,6 @@ pub fn is_uncounted(binaries: &[AskedBinary<'_>], id: &str, test: Option<&str>) 
     }
 }
 
-/// Returns the first test of the binary with this name, of those that count, or else of the others.
-fn any_test_called<'s>(binary: &AskedBinary<'s>, name: &str) -> Option<&'s TestCaseName>
-    ensures { option_map (λ t. t.now) result ≡ test_called name.now binary.now }
-{
-    match test_called(binary.tests, name) {
-        Some(test) => Some(test),
-        None => test_called(binary.uncounted, name),
-    }
-}
-
 /// Returns the first binary with this id. The fault names the list at the path `list`.
 pub fn find_binary<'b, 's>(
     alloc: Global,
@@ -80,7 +70,8 @@ pub fn find_test<'s>(
     ensures missing { IfErr result (OrMemory (IsMissing list.now binaries.now id.now (Some test.entry))) }
 {
     let binary = find_binary(alloc, list, id, binaries)?;
-    let Some(test_name) = any_test_called(binary, test) else {
+    let counted = test_called(binary.tests, test);
+    let Some(test_name) = counted.or_else(|| test_called(binary.uncounted, test)) else {
         return Err(CommandFault::NoTest {
             list: String::from_str(alloc, list)?,
             binary: String::from_str(alloc, id)?,

@@ -19,12 +19,8 @@ use std::fmt::Write;
 fn warned_ending(denies: bool, count: usize) -> Ending
     ensures { result ≡ warned_ending denies count }
 {
-    if denies {
-        if count == 0 {
-            Ending::Fine
-        } else {
-            Ending::Faulty
-        }
+    if denies && count != 0 {
+        Ending::Faulty
     } else {
         Ending::Fine
     }
@@ -139,25 +135,6 @@ fn warn_by<'s>(
     Ok(answer)
 }
 
-/// Writes the warnings of texts by the filtersets of a setting, and drops those.
-fn warn_compiled<'s>(
-    alloc: Global,
-    form: Form,
-    end: WarningEnd,
-    setting: &'s Setting<'_>,
-    filtersets: QuestionFiltersets,
-    texts: &[TextEntry<'_>],
-    binaries: &'s [AskedBinary<'_>],
-) -> Result<Answer, AllocError>
-    requires kind { setting.now.default.now.kind ≡ kinds.DefaultFilter }
-    requires groups { IsKnown setting.now.groups.now }
-    requires filtersets { AreFiltersets setting.now.graph.now setting.now.groups.now setting.now [] filtersets }
-    ensures { IfOk result (λ answer. AnswersWarnings form end setting.now (map text_row texts.now) binaries.now
-        answer.ending (string_bytes answer.text)) }
-{
-    warn_by(alloc, form, end, setting, &filtersets, texts, binaries)
-}
-
 /// Writes the warnings of texts under a setting, by the tests of these binaries, and for people a summary. If a text of the
 /// setting has faults, it writes nothing.
 ///
@@ -177,7 +154,7 @@ pub fn warn_setting(
 {
     match compile_texts(alloc, form, setting, &[])? {
         CompiledTexts::Filtersets(filtersets) => {
-            warn_compiled(alloc, form, end, setting, filtersets, texts, binaries)
+            warn_by(alloc, form, end, setting, &filtersets, texts, binaries)
         }
         CompiledTexts::Faults(_faults) => Ok(Answer {
             text: String::new(alloc),

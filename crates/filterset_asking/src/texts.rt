@@ -25,38 +25,6 @@ pub struct WarningContext<'c, 'e, 's> {
     pub subjects: Vec<Subject<'s>>,
 }
 
-/// Writes the warnings of a filterset, which the text with this number is, and returns how many.
-fn push_filterset(
-    output: &mut String,
-    alloc: Global,
-    cx: &WarningContext<'_, '_, '_>,
-    number: usize,
-    entry: &TextEntry<'_>,
-    filterset: &Filterset,
-) -> Result<usize, AllocError>
-    requires accepted { IsAccepted (packages_of cx.now.parse_context) cx.now.known_groups.now (text_row entry.now)
-        (tree_of filterset.now.parsed) }
-    requires compiled { IsCompiled (packages_of cx.now.parse_context) (tree_of filterset.now.parsed)
-        filterset.now.compiled }
-    ensures { IfOk result (λ count. (piece : Text) × (string_bytes output.new ≡ string_bytes output.old ++ piece)
-        × TextWarnings cx.now.form cx.now.known_groups.now (basis_of cx.now) cx.now.subjects.items number
-        (text_row entry.now) count piece) }
-{
-    let (tree, compiled) = (&filterset.parsed, &filterset.compiled);
-    let subjects = cx.subjects.as_slice();
-    let hints = find_hints(alloc, tree, compiled, &cx.eval_context, subjects)?;
-    let source = Source::new(alloc, entry.origin.as_str(), entry.text)?;
-    let writer = RemarkWriter {
-        form: cx.form,
-        source: &source,
-        place: entry.place,
-        number: Some(number),
-    };
-    let remarks = remarks_of(alloc, &hints)?;
-    writer.push_all(output, alloc, remarks.as_slice())?;
-    Ok(remarks.len())
-}
-
 /// Writes the warnings of the text with this number, and returns how many. A text with faults has none.
 fn push_text(
     output: &mut String,
@@ -70,10 +38,23 @@ fn push_text(
         × TextWarnings cx.now.form cx.now.known_groups.now (basis_of cx.now) cx.now.subjects.items number
         (text_row entry.now) count piece) }
 {
-    match parse_entry(alloc, &cx.parse_context, cx.known_groups, entry)? {
-        Ok(filterset) => push_filterset(output, alloc, cx, number, entry, &filterset),
-        Err(_faults) => Ok(0),
-    }
+    let filterset = match parse_entry(alloc, &cx.parse_context, cx.known_groups, entry)? {
+        Ok(filterset) => filterset,
+        Err(_faults) => return Ok(0),
+    };
+    let (tree, compiled) = (&filterset.parsed, &filterset.compiled);
+    let subjects = cx.subjects.as_slice();
+    let hints = find_hints(alloc, tree, compiled, &cx.eval_context, subjects)?;
+    let source = Source::new(alloc, entry.origin.as_str(), entry.text)?;
+    let writer = RemarkWriter {
+        form: cx.form,
+        source: &source,
+        place: entry.place,
+        number: Some(number),
+    };
+    let remarks = remarks_of(alloc, &hints)?;
+    writer.push_all(output, alloc, remarks.as_slice())?;
+    Ok(remarks.len())
 }
 
 /// Writes the warnings of texts, which are numbered from 1, and returns how many: of each predicate that matches no test, and

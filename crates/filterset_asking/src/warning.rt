@@ -99,7 +99,11 @@ fn warn_listed<'x, F: FileSource>(
             end: texts.end,
         }),
     };
-    let asked = AskedWorkspace::new(&own, texts.graph, list.suites.as_slice());
+    let asked = AskedWorkspace {
+        request: &own,
+        graph: texts.graph,
+        suites: list.suites.as_slice(),
+    };
     match texts.path {
         None => ask_plainly(alloc, &asked, None, None),
         Some(path) => {
@@ -130,16 +134,6 @@ pub fn warn_checked<'x, F: FileSource>(
     }
 }
 
-/// Returns how an answer ends that another answer follows.
-fn either_ending(first: Ending, second: Ending) -> Ending
-    ensures { result ≡ either_ending first second }
-{
-    match first {
-        Ending::Fine => second,
-        Ending::Faulty | Ending::Differing | Ending::Unknown => first,
-    }
-}
-
 /// Puts a text and an answer after another answer.
 pub fn join_answers(
     alloc: Global,
@@ -154,8 +148,9 @@ pub fn join_answers(
     let mut text = String::from_str(alloc, first.text.as_str())?;
     text.push_str(middle)?;
     text.push_str(second.text.as_str())?;
-    Ok(Answer {
-        text,
-        ending: either_ending(first.ending, second.ending),
-    })
+    let ending = match first.ending {
+        Ending::Fine => second.ending,
+        Ending::Faulty | Ending::Differing | Ending::Unknown => first.ending,
+    };
+    Ok(Answer { text, ending })
 }

@@ -9,7 +9,7 @@ use Rattle.filterset_asking.proofs.asking.ask.Goals as goal
 
 pub returns-in-None-clause-answered : goal.returns-in-None-clause-answered
 returns-in-None-clause-answered g c =
-    let told = rw (c.new-asked.ensures.request, c.new-asked.ensures.graph, c.new-asked.ensures.suites, c.as_slice.ensures.value, c.kept_of.ensures, c.in_ok-given.ensures.row) at c.ask_plainly.ensures.answered in
+    let told = rw (c.as_slice.ensures.value, c.kept_of.ensures, c.in_ok-given.ensures.row) at c.ask_plainly.ensures.answered in
     IfOk-weaker c.ask_plainly.result _ _ (λ answer answers. (c.in_ok-graph.field-0, c.in_ok-graph.ensures.read, rw c.in-None.is answers)) told
 
 pub returns-in-None-clause-refused : goal.returns-in-None-clause-refused
@@ -18,7 +18,7 @@ returns-in-None-clause-refused g c =
     let fails = g.F.FileSource.fails c.args.files.now in
     let request = c.args.request.now in
     let workspace = c.in_ok-graph.field-0 in
-    let told = rw (c.new-asked.ensures.request, c.new-asked.ensures.suites, c.as_slice.ensures.value) at c.ask_plainly.ensures.missing in
+    let told = rw c.as_slice.ensures.value at c.ask_plainly.ensures.missing in
     IfErr-weaker c.ask_plainly.result _ _ (OrMemory-weaker (LacksIn (name_of request.paths.list.now) request.asked workspace.list.suites.items) (IsAskedFault content fails request)
     (λ fault lacks. inr (inr (workspace, c.in_ok-graph.ensures.read, inl lacks)))) told
 
@@ -35,7 +35,7 @@ returns-in_err-built-in-Some-clause-refused g c =
 
 pub returns-clause-answered : goal.returns-clause-answered
 returns-clause-answered g c =
-    let told = rw (c.new-asked.ensures.request, c.new-asked.ensures.graph, c.new-asked.ensures.suites, c.as_slice.ensures.value, c.kept_of-kept.ensures, c.in_ok-given.ensures.row) at c.ask_configured.ensures.answered in
+    let told = rw (c.as_slice.ensures.value, c.kept_of-kept.ensures, c.in_ok-given.ensures.row) at c.ask_configured.ensures.answered in
     IfOk-weaker c.ask_configured.result _ _ (λ answer answers. (
       c.in_ok-graph.field-0,
       c.in_ok-graph.ensures.read,
@@ -49,7 +49,7 @@ returns-clause-refused g c =
     let request = c.args.request.now in
     let profile = c.in-Some.profile in
     let workspace = c.in_ok-graph.field-0 in
-    let told = rw (c.new-asked.ensures.request, c.new-asked.ensures.suites, c.as_slice.ensures.value) at c.ask_configured.ensures.refused in
+    let told = rw c.as_slice.ensures.value at c.ask_configured.ensures.refused in
     IfErr-weaker c.ask_configured.result _ _ (OrMemory-weaker (λ (fault : CommandFault). LacksIn (name_of request.paths.list.now) request.asked workspace.list.suites.items fault ⊎ IsProfileFault content fails profile fault)
     (IsAskedFault content fails request)
     (λ fault either. elim either as (λ _. IsAskedFault content fails request fault) [

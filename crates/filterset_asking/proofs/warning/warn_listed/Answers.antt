@@ -11,7 +11,7 @@ warn_configured-requires-clause-configuration g c = rw c.in-Some.is at c.require
 
 pub returns-in-None-clause-answered : goal.returns-in-None-clause-answered
 returns-in-None-clause-answered g c =
-    let told = rw (c.new-asked.ensures.request, c.new-asked.ensures.graph, c.new-asked.ensures.suites, c.as_slice.ensures.value) at c.ask_plainly.ensures.answered in
+    let told = rw c.as_slice.ensures.value at c.ask_plainly.ensures.answered in
     IfOk-weaker c.ask_plainly.result _ _ (λ answer answers. (view c.in_ok-list.value, c.in_ok-list.list.suites.items, c.in_ok-list.ensures.read, rw c.in-None.is answers)) told
 
 pub returns-in-None-clause-refused : goal.returns-in-None-clause-refused
@@ -22,14 +22,14 @@ returns-in-None-clause-refused g c =
     let texts = c.args.texts.now in
     let suites = c.in_ok-list.list.suites.items in
     let asked : Asked = Warnings (record { entries = texts.entries; end = texts.end }) in
-    let told = rw (c.new-asked.ensures.request, c.new-asked.ensures.suites, c.as_slice.ensures.value) at c.ask_plainly.ensures.missing in
+    let told = rw c.as_slice.ensures.value at c.ask_plainly.ensures.missing in
     IfErr-weaker c.ask_plainly.result _ _ (OrMemory-weaker (LacksIn (name_of request.paths.list.now) asked suites)
     (IsListedFault content fails texts.graph.now texts.path texts.configured.file.now.text.now request)
     (λ fault lacks. absurd lacks.2)) told
 
 pub returns-clause-answered : goal.returns-clause-answered
 returns-clause-answered g c =
-    let told = rw (c.new-asked.ensures.request, c.new-asked.ensures.graph, c.new-asked.ensures.suites, c.as_slice.ensures.value, c.profile_at-profile.ensures) at c.warn_configured.ensures.answered in
+    let told = rw (c.as_slice.ensures.value, c.profile_at-profile.ensures) at c.warn_configured.ensures.answered in
     IfOk-weaker c.warn_configured.result _ _ (λ answer answers. (view c.in_ok-list.value, c.in_ok-list.list.suites.items, c.in_ok-list.ensures.read, rw c.in-Some.is answers)) told
 
 pub returns-clause-refused : goal.returns-clause-refused
@@ -43,7 +43,7 @@ returns-clause-refused g c =
     let Unused : CommandFault → Type 0 =
     IsProfileUnused content fails texts.configured.file.now.text.now request.paths.list.now (view c.in_ok-list.value) (profile_at c.in-Some.path request) in
     let Wrong : CommandFault → Type 0 = IsListedFault content fails texts.graph.now texts.path texts.configured.file.now.text.now request in
-    let told = rw (c.new-asked.ensures.request, c.new-asked.ensures.suites, c.as_slice.ensures.value, c.profile_at-profile.ensures) at c.warn_configured.ensures.refused in
+    let told = rw (c.as_slice.ensures.value, c.profile_at-profile.ensures) at c.warn_configured.ensures.refused in
     IfErr-weaker c.warn_configured.result _ _ (OrMemory-weaker (λ (fault : CommandFault). Lacking fault ⊎ Unused fault) Wrong
     (λ fault either. elim either as (λ _. Wrong fault) [
       | inl lacks ↦ absurd lacks.2
