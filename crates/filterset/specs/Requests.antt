@@ -2,7 +2,7 @@
 use Rattle.std.specs.Prelude.{◌≡◌, ◌⊎◌, ◌<◌, Bool, ℕ, List, Option, codes, map}
 use Rattle.std.specs.{Borrow.Bor, declared.io.Error.Error}
 use Rattle.clap.specs.declared.error.kind.ErrorKind.{ErrorKind, TheVariants.DisplayHelp, TheVariants.DisplayVersion}
-use Rattle.filterset_answers.specs.Answers.{FormatsTexts, SimplifiesTexts}
+use Rattle.filterset_asking.specs.Formatted.{FormatsTexts, SimplifiesTexts}
 use Rattle.filterset_entries.specs.{Checked.TextRow, Endings.ending_of, Entries.input_rows, Entries.numbered_rows}
 use Rattle.filterset_entries.specs.declared.text.Ending.{Ending, TheVariants.Fine}
 use Rattle.filterset_drawing.specs.{Columns.Text, declared.source.Source.Source}

@@ -1,13 +1,12 @@
 //! The filtersets to check, to format or to simplify.
 ghost use Rattle.std.specs.Prelude.{◌≡◌, IfErr, IfOk, ℕ, map, string_bytes};
-ghost use Rattle.filterset_answers.specs.Answers.{FormatsTexts, SimplifiesTexts};
+ghost use Rattle.filterset_asking.specs.Formatted.{FormatsTexts, SimplifiesTexts};
 ghost use Rattle.filterset_entries.specs.{Checked.text_row, Endings.ending_of};
 ghost use Rattle.filterset_asking.specs.Checking.{AnswersCheck, IsCheckFault};
 ghost use Rattle.filterset_loading.specs.Files.{OrMemory};
 ghost use Rattle.filterset.specs.Requests.{IsInputFile, rows_of};
 
-use filterset_answers::{format_texts, simplify_texts};
-use filterset_asking::check_texts;
+use filterset_asking::{check_texts, format_texts, simplify_texts};
 use filterset_drawing::Source;
 use filterset_entries::{Answer, Form, TextEntry, given_entries, input_entries};
 use filterset_loading::{CheckPaths, CommandFault, FileSource, INPUT_NAME, Texts};

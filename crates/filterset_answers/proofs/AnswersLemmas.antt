@@ -3,16 +3,11 @@ use Rattle.std.proofs.Common.{◌≡◌, ◌≢◌, ℕ, suc, Bool, add-zero, ar
 use Rattle.std.proofs.Math.Dec.{eqb-suc-zero}
 use Rattle.std.proofs.lemmas.List.{append-nil, length-map, length-take-le}
 use Rattle.std.specs.Prelude.{◌==◌, if◌then◌else◌}
-use Rattle.filterset_json.specs.Pieces.{Pieces}
-use Rattle.filterset_json.proofs.PieceLemmas.{Pieces-push}
 use Rattle.filterset_drawing.specs.{Columns.Text, Remarks.RemarkRow, Remarks.fault_remark}
 use Rattle.filterset_faults.specs.declared.error.ParseSingleError.{ParseSingleError}
-use Rattle.filterset_answers.specs.Answers.{FaultsOf, no_texts, next_text, RewritesTexts, FormattedLine, FormattedPart, TextFaults, has_some}
-use Rattle.filterset_answers.specs.declared.formatting.Rewriting.{Rewriting}
-use Rattle.filterset_entries.specs.Checked.{HasReadingFaults, TextRow, all_remarks}
+use Rattle.filterset_answers.specs.Answers.{FaultsOf, no_texts, next_text, TextFaults, has_some}
+use Rattle.filterset_entries.specs.Checked.{TextRow}
 use Rattle.filterset_entries.specs.declared.form.Form.{Form}
-use Rattle.filterset_rewriting.specs.Reading.{IsUnreadFor}
-use Rattle.filterset_rewriting.specs.declared.reading.TextRefusal.{TextRefusal, TheVariants.Found, TheVariants.TooDeep}
 use mir.Val.{bool_byte}
 
 -- one if so, and else none
@@ -48,29 +43,10 @@ FaultsOf-push Has form n rows row faulty has pieces piece (next_text {others} {r
 pub next_number : {A B : Type 0} (f : A → B) (xs : List A) (i : ℕ) → i < length xs → 1 + length (map f (take i xs)) ≡ i + 1
 next_number f xs i lt = omega (arith, length-map (take i xs) f, length-take-le i xs (omega arith))
 
--- the line of the next text, as long as none has faults
-pub FormattedLines-next : (rewriting : Rewriting) (rows : List TextRow) (row : TextRow) (lines line : Text) (faulty : ℕ) (has : Bool)
-    → (faulty ≡ 0 → Pieces (FormattedLine rewriting) rows lines) → FormattedPart rewriting has row line
-    → (faulty + one_if has ≡ 0 → Pieces (FormattedLine rewriting) (rows ++ row ∷ []) (lines ++ line))
-FormattedLines-next rewriting rows row lines line faulty true are is none = absurd (omega (arith, none))
-FormattedLines-next rewriting rows row lines line faulty false are is none = Pieces-push (FormattedLine rewriting) rows row lines line (are (omega (arith, none))) is
-
--- what formatting answers
-pub formats : (form : Form) (rewriting : Rewriting) (rows : List TextRow) (faulty : ℕ) (lines pieces formatted faults text : Text)
-    → FaultsOf HasReadingFaults form 1 rows faulty pieces → (faulty ≡ 0 → Pieces (FormattedLine rewriting) rows lines)
-    → formatted ≡ lines → faults ≡ pieces → (faulty ≡ 0 → text ≡ formatted) → (faulty ≢ 0 → text ≡ faults)
-    → RewritesTexts rewriting form rows faulty text
-formats form rewriting rows faulty lines pieces formatted faults text are_pieces are_lines is_lines is_pieces fine other =
-    (pieces, are_pieces, λ none. subst (Pieces (FormattedLine rewriting) rows) (sym (fine none ∙ is_lines)) (are_lines none), λ some. other some ∙ is_pieces)
-
 -- there are some where there are not none
 pub some_is : (faults : List ParseSingleError) → faults ≢ [] → true ≡ has_some (map fault_remark faults)
 some_is [] none = absurd (none refl)
 some_is (fault ∷ faults) some = refl
-
-pub unread_some : (text : Text) (faults : TextRefusal) → IsUnreadFor text faults → true ≡ has_some (all_remarks faults)
-unread_some text (Found faults) unread = some_is faults.items unread.some
-unread_some text (TooDeep place) deep = refl
 
 -- a truth value as a number
 pub number_of : (b : Bool) → bool_byte b ≡ one_if b

@@ -3,6 +3,7 @@ pub mod Checking
 pub mod Configured
 pub mod Contexts
 pub mod Explaining
+pub mod Formatted
 pub mod Overriding
 pub mod Spans
 pub mod Values

@@ -10,3 +10,11 @@ pub mod Waits
 pub mod Sizes
 pub mod Refusing
 pub mod Asking
+pub mod Bridges
+pub mod Later
+pub mod Leaves
+pub mod Left
+pub mod Resting
+pub mod Simplified
+pub mod Taking
+pub mod Kept

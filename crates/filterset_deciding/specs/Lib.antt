@@ -14,3 +14,4 @@ pub mod PackageSets
 pub mod Candidates
 pub mod Waiting
 pub mod Listed
+pub mod Simplifying

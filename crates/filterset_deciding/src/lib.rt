@@ -1,6 +1,6 @@
-//! Decides questions about filtersets for every possible test: whether they pick the same tests, and whether each test is
-//! picked by at least one, by at most one, or by exactly one of them. Filtersets go in; yes, or a test that shows why not,
-//! comes out. For `filterset_verdicts`.
+//! Looks at filtersets for every possible test: whether they pick the same tests, whether each test is picked by at least
+//! one, by at most one, or by exactly one of them, and what is left of one that is simplified. Filtersets go in; yes, or a test
+//! that shows why not, or a simpler filterset comes out. For `filterset_verdicts` and `filterset_asking`.
 #![tactic(auto)]
 
 mod aspects;
@@ -19,6 +19,7 @@ mod running;
 mod sample;
 mod searching;
 mod seeking;
+mod simplifying;
 mod texts;
 mod witness;
 
@@ -26,4 +27,5 @@ pub use deciding::{Verdict, decide};
 pub use demand::{Demand, Doubt, TestField};
 pub use listed::find_listed;
 pub use question::Question;
+pub use simplifying::simplify;
 pub use witness::{PossibleTest, Witness};

@@ -1,17 +1,9 @@
 pub mod ArgumentLemmas
-pub mod Bridges
 pub mod CallLemmas
 pub mod FrontLemmas
-pub mod Later
-pub mod Leaves
-pub mod Left
 pub mod Lexing
 pub mod Nested
 pub mod OperandLemmas
-pub mod Parts
-pub mod Resting
 pub mod Shown
-pub mod Simplified
 pub mod Spelled
-pub mod Taking
 pub mod TokenLemmas

@@ -4,6 +4,5 @@ pub mod Links
 pub mod Nesting
 pub mod Reading
 pub mod Showing
-pub mod Simplifying
 pub mod Spelling
 pub mod Tokens

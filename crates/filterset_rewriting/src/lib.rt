@@ -1,6 +1,6 @@
 //! Looks at filtersets without asking what they match: their tokens (`tokens`), how deeply they nest (`nesting`), and what
-//! means the same, simplified (`simplifying`), with operators between their operands, with parentheses that show how an
-//! expression is read, or without the operator `^`. For commands and editors.
+//! means the same, with operators between their operands, with parentheses that show how an expression is read, or without
+//! the operator `^`. For commands and editors.
 #![tactic(auto)]
 
 mod calls;
@@ -10,7 +10,6 @@ pub mod nesting;
 mod operands;
 mod reading;
 mod showing;
-pub mod simplifying;
 mod spelling;
 pub mod tokens;
 

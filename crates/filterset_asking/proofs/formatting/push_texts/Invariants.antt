@@ -1,0 +1,16 @@
+use Rattle.std.proofs.Common.{◌≡◌, ◌≤◌, ◌++◌, map, string_bytes, take}
+use Rattle.filterset_drawing.specs.Columns.{Text}
+use Rattle.filterset_json.specs.Pieces.{Pieces}
+use Rattle.filterset_answers.specs.Answers.{FaultsOf}
+use Rattle.filterset_asking.specs.Formatted.{FormattedLine}
+use Rattle.filterset_entries.specs.Checked.{HasReadingFaults, text_row}
+use Rattle.filterset_asking.proofs.formatting.push_texts.Given as goal
+
+-- the texts so far were written, or their faults
+abbrev pub invariant-loop-i : goal.invariant-loop-i
+invariant-loop-i l =
+    (l.faulty ≤ l.i) × ((lines : Text) × (pieces : Text)
+    × (string_bytes l.formatted ≡ string_bytes l.initial.formatted ++ lines)
+    × (string_bytes l.output ≡ string_bytes l.initial.output ++ pieces)
+    × (l.faulty ≡ 0 → Pieces (FormattedLine l.rewriting) (map text_row (take l.i l.texts)) lines)
+    × FaultsOf HasReadingFaults l.form 1 (map text_row (take l.i l.texts)) l.faulty pieces)
