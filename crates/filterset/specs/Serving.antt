@@ -8,7 +8,7 @@ use Rattle.filterset_editor.specs.{Written.Writes, declared.ending.Ending.Ending
 use Rattle.filterset_json.specs.declared.fault.RunFault.TheVariants.{Read, Write}
 use Rattle.filterset_names.specs.Workspaces.{WorkspaceRow}
 use Rattle.filterset_sources.specs.declared.list.RunIgnored.TheVariants.{All}
-use Rattle.filterset_server.specs.Responses.{says}
+use Rattle.filterset.specs.Responses.{says}
 use Rattle.filterset_loading.specs.Workspaces.{IsWorkspaceFault, IsWorkspaceIn}
 use Rattle.filterset_loading.specs.declared.fault.CommandFault.{CommandFault, TheVariants.Run}
 use Rattle.filterset_loading.specs.declared.workspace.{Workspace.Workspace, WorkspacePaths.WorkspacePaths}

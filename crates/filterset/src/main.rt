@@ -8,6 +8,7 @@ mod command_line;
 mod ending;
 mod finding;
 mod greeting;
+mod language;
 mod output;
 mod run;
 mod serving;

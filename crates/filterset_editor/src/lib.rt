@@ -1,5 +1,5 @@
 //! A language server, but for what it says of documents: messages on a stream, positions in texts, changes of documents, and
-//! the session. What it says is a `Language`, as in `filterset_server`. For the program `filterset`.
+//! the session. What it says is a `Language`, as in the program `filterset`, which uses this.
 #![tactic(auto)]
 
 mod documents;

@@ -1,5 +1,5 @@
 //! What may be typed at a position of a document with filtersets: each offered text stands where it is put. For
-//! `filterset_server`.
+//! the program `filterset`.
 #![tactic(auto)]
 
 mod candidates;

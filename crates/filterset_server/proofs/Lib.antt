@@ -1,1 +1,2 @@
+mod ActionLemmas
 mod MarkLemmas

@@ -1,9 +1,15 @@
+pub mod Actions
+pub mod Changes
 pub mod Folding
 pub mod Formatting
 pub mod Highlights
 pub mod Hover
 pub mod Matches
-pub mod Responses
+pub mod Mending
+pub mod Proposals
+pub mod Repairs
+pub mod Spelling
+pub mod Subjects
 pub mod Symbols
 pub mod Unmatched
 pub mod Words

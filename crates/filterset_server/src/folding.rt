@@ -29,7 +29,7 @@ fn folds_of(alloc: Global, range: Range) -> Result<Vec<Value>, AllocError>
 }
 
 /// Makes the value of what is folded of filtersets: the lines where each is, if there are several.
-pub(crate) fn folds_value(
+pub fn folds_value(
     alloc: Global,
     shown: &Shown<'_>,
     entries: &[TextEntry<'_>],

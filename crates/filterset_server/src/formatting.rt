@@ -61,7 +61,7 @@ fn rewrite_content(
 }
 
 /// Makes the edits that format the filtersets of a document, or `null` if these can't be made.
-pub(crate) fn format_content(
+pub fn format_content(
     alloc: Global,
     shown: &Shown<'_>,
     content: Content<'_, '_>,

@@ -178,7 +178,7 @@ fn marks_value(alloc: Global, marks: &[Mark]) -> Result<Value, AllocError>
 }
 
 /// Makes the value of the tokens of filtersets.
-pub(crate) fn highlight_entries(
+pub fn highlight_entries(
     alloc: Global,
     shown: &Shown<'_>,
     entries: &[TextEntry<'_>],

@@ -100,7 +100,7 @@ fn hover_entry(
 }
 
 /// Makes the hover at a position of filtersets.
-pub(crate) fn hover_entries(
+pub fn hover_entries(
     alloc: Global,
     workspace: Option<Workspace<'_>>,
     shown: &Shown<'_>,

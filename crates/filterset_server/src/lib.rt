@@ -1,16 +1,31 @@
 //! What a language server says of documents with filtersets, which are nextest's configuration and lists of filtersets:
-//! their faults, where they are, the edits that format them, and what their predicates mean. A request about an open
-//! document goes in; its answer comes out. For the program `filterset`.
+//! warnings, symbols, tokens, what predicates mean, edits that format, and actions, each read again before it is offered. An
+//! open document goes in; the values of its answers come out. For the program `filterset`.
 #![tactic(auto)]
 
+mod actions;
+mod calls;
+mod changes;
+mod edits;
 mod folding;
 mod formatting;
 mod highlighting;
 mod hover;
-mod language;
 mod matches;
+mod mending;
+mod proposals;
+mod repairs;
+mod spelling;
+mod subject;
 mod symbols;
 mod unmatched;
+mod values;
 mod words;
 
-pub use language::FiltersetLanguage;
+pub use actions::act_on;
+pub use folding::folds_value;
+pub use formatting::format_content;
+pub use highlighting::highlight_entries;
+pub use hover::hover_entries;
+pub use symbols::symbols_value;
+pub use unmatched::warn_entries;

@@ -21,7 +21,7 @@ fn symbol_value(alloc: Global, name: &str, range: Range) -> Result<Value, AllocE
 }
 
 /// Makes the value of the symbols of filtersets.
-pub(crate) fn symbols_value(
+pub fn symbols_value(
     alloc: Global,
     shown: &Shown<'_>,
     entries: &[TextEntry<'_>],

@@ -157,7 +157,7 @@ fn warn_each(
 }
 
 /// Makes the warnings of filtersets, one after the other, if a workspace is known.
-pub(crate) fn warn_entries(
+pub fn warn_entries(
     alloc: Global,
     workspace: Option<Workspace<'_>>,
     shown: &Shown<'_>,

@@ -1,0 +1,24 @@
+//! The document whose filtersets may be changed.
+ghost use Rattle.std.specs.Prelude.{◌≡◌};
+ghost use Rattle.filterset_server.specs.Subjects.{meets, subject_row};
+
+use filterset_documents::{Content, Shown};
+use filterset_faults::SourceSpan;
+
+/// A document, and the offsets between which it is asked about.
+#[derive(Clone, Copy, Debug)]
+pub struct Subject<'d> {
+    pub shown: &'d Shown<'d>,
+    pub uri: &'d str,
+    pub from: usize,
+    pub to: usize,
+    pub content: Content<'d, 'd>,
+}
+
+/// Returns whether a span of the file is in what is asked about, or touches that.
+pub fn meets(subject: &Subject<'_>, span: SourceSpan) -> bool
+    ensures { result ≡ meets (subject_row subject.now) span }
+{
+    span.offset() <= subject.to
+        && (subject.from <= span.offset() || subject.from - span.offset() <= span.len())
+}
