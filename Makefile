@@ -9,7 +9,7 @@ PREFIX = /usr/local
 DESTDIR =
 OUT = out
 COMMAND = crates/filterset/out/filterset
-VERSION := $(shell sed -n 's/^const VERSION: &str = "\(.*\)";$$/\1/p' crates/filterset_arguments/src/commands.rt)
+VERSION := $(shell sed -n 's/^const VERSION: &str = "\(.*\)";$$/\1/p' crates/filterset_loading/src/commands.rt)
 
 .PHONY: all programs extras library install uninstall check dist
 all: programs

@@ -6,9 +6,8 @@ ghost use Rattle.filterset.specs.Requests.{IsShown};
 
 use clap::error::ErrorKind;
 use clap::{ArgMatches, Error};
-use filterset_arguments::arguments;
 use filterset_json::RunFault;
-use filterset_loading::{CommandFault, Request, Task, task_of};
+use filterset_loading::{CommandFault, Request, Task, arguments, task_of};
 use std::alloc::{AllocError, Global};
 
 /// What the words of the command line are.

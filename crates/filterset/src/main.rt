@@ -16,11 +16,12 @@ mod texts;
 
 use command_line::CommandLine;
 use ending::{Ended, status};
-use filterset_arguments::{arguments, completion_script};
 use filterset_editor::Ending as SessionEnding;
 use filterset_entries::Ending;
 use filterset_json::{FromReader, RunFault, ToWriter};
-use filterset_loading::{CommandFault, HostFiles, Request, Task, WorkspacePaths};
+use filterset_loading::{
+    CommandFault, HostFiles, Request, Task, WorkspacePaths, arguments, completion_script,
+};
 use finding::{find_configuration, lacks_texts, path_in, with_configuration};
 use output::HostOutput;
 use run::run;

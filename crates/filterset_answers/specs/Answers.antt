@@ -1,8 +1,8 @@
 -- What `check` writes about texts.
 use Rattle.std.specs.Prelude.{◌≡◌, ◌==◌, ◌++◌, Bool, true, false, ℕ, suc, ◌+◌, List, [], ◌∷◌, codes, decimal, length, if◌then◌else◌}
 use Rattle.filterset_drawing.specs.{Columns.Text, Remarks.RemarkRow}
-use Rattle.filterset_entries.specs.{Checked.HasFaults, Checked.TextRow, Forms.FaultPieces}
-use Rattle.filterset_entries.specs.declared.{form.Form.Form, form.Form.TheVariants.Drawn, names.Names.Names}
+use Rattle.filterset_drawing.specs.declared.remark.Form.{Form, TheVariants.Drawn}
+use Rattle.filterset_entries.specs.{Checked.HasFaults, Checked.TextRow, Forms.FaultPieces, declared.names.Names.Names}
 
 -- ---- faults
 

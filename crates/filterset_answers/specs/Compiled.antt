@@ -1,7 +1,7 @@
 -- Which filtersets texts spell, or which faults they have.
 use Rattle.std.specs.Prelude.{◌≡◌, ◌≢◌, ◌⊎◌, ◌++◌, ℕ, List, [], filter, length, Bool, true, false, Option, Some, None, is_some, option_map, string_bytes}
 use Rattle.std.specs.{Borrow.Bor, List.AllZip}
-use Rattle.filterset_drawing.specs.Columns.{Text}
+use Rattle.filterset_drawing.specs.{Columns.Text, declared.remark.Form.Form}
 use Rattle.filterset_expression.specs.{Meaning.IsCompiled, declared.expression.CompiledExpr.CompiledExpr}
 use Rattle.filterset_faults.specs.declared.span.SourceSpan.{SourceSpan}
 use Rattle.filterset_graph.specs.declared.package.PackageMetadata.{PackageMetadata}
@@ -15,7 +15,7 @@ use Rattle.filterset_answers.specs.Answers.{FaultsOf}
 use Rattle.filterset_answers.specs.declared.compiling.{CompiledTexts.CompiledTexts, Compiler.Compiler}
 use Rattle.filterset_answers.specs.declared.compiling.{FaultLog.FaultLog, QuestionFiltersets.QuestionFiltersets}
 use Rattle.filterset_entries.specs.Checked.{HasRefusal, IsAccepted, IsFiltersetFor, IsRefusedFor, TextRow, all_remarks, text_row}
-use Rattle.filterset_entries.specs.{Entries.setting_rows, Forms.FaultPieces, declared.form.Form.Form}
+use Rattle.filterset_entries.specs.{Entries.setting_rows, Forms.FaultPieces}
 use Rattle.filterset_entries.specs.declared.setting.{OverrideEntry.OverrideEntry, Setting.Setting}
 use Rattle.filterset_entries.specs.declared.text.{Ending.Ending, Ending.TheVariants.Faulty, TextEntry.TextEntry}
 use Rattle.filterset_answers.specs.declared.compiling.CompiledTexts.TheVariants as texts

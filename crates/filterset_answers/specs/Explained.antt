@@ -1,13 +1,13 @@
 -- What `explain` writes.
 use Rattle.std.specs.Prelude.{◌≡◌, ◌++◌, Bool, [], ◌∷◌, codes, if◌then◌else◌, is_some}
-use Rattle.filterset_drawing.specs.Columns.{Text}
+use Rattle.filterset_drawing.specs.{Columns.Text, declared.remark.Form.Form}
 use Rattle.filterset_faults.specs.declared.span.SourceSpan.{SourceSpan}
 use Rattle.filterset_grammar.specs.Tree.{Tree}
 use Rattle.filterset_listing.specs.{Explaining.IsExplanation, ExplanationText.explanation_text}
 use Rattle.filterset_listing.specs.declared.explaining.{Explanation.Explanation, candidate.Candidate.Candidate}
 use Rattle.filterset_answers.specs.Compiled.{AnswersTexts, Basis, Telling}
 use Rattle.filterset_entries.specs.{Endings.unknown_ending, Entries.test_row}
-use Rattle.filterset_entries.specs.declared.{form.Form.Form, setting.Setting.Setting, text.Ending.Ending}
+use Rattle.filterset_entries.specs.declared.{setting.Setting.Setting, text.Ending.Ending}
 
 -- the value of each node of the tree, a line each, and the override that unknown ones depend on
 abbrev pub ExplainsTree : Candidate → (setting : Setting) → Basis setting → Tree SourceSpan → Ending → Text → Type 0

@@ -1,7 +1,7 @@
 -- What `overrides` writes.
 use Rattle.std.specs.Prelude.{◌≡◌, ◌==◌, ◌||◌, Bool, true, List, [], ◌++◌, Option, Some, None, codes, is_none, length, not}
 use Rattle.std.specs.List.{AllZip, count_by, list_any, sum_by}
-use Rattle.filterset_drawing.specs.Columns.{Text}
+use Rattle.filterset_drawing.specs.{Columns.Text, declared.remark.Form.Form}
 use Rattle.filterset_expression.specs.declared.{expression.CompiledExpr.CompiledExpr, query.TestQuery.TestQuery}
 use Rattle.filterset_faults.specs.declared.span.SourceSpan.{SourceSpan}
 use Rattle.filterset_grammar.specs.Tree.{Tree}
@@ -18,7 +18,7 @@ use Rattle.filterset_overrides.specs.declared.asked.{AskedOverride.AskedOverride
 use Rattle.filterset_overrides.specs.declared.counting.{OverrideRow.OverrideRow, OverrideTable.OverrideTable}
 use Rattle.filterset_overrides.specs.declared.explaining.TestOverrides.{TestOverrides}
 use Rattle.nextest_filtering.specs.declared.filterset.Filterset.{Filterset}
-use Rattle.filterset_entries.specs.{Checked.text_row, Endings.unknown_ending, declared.form.Form.Form}
+use Rattle.filterset_entries.specs.{Checked.text_row, Endings.unknown_ending}
 use Rattle.filterset_entries.specs.declared.setting.{OverrideEntry.OverrideEntry, Setting.Setting}
 use Rattle.filterset_entries.specs.declared.text.{Ending.Ending, TextEntry.TextEntry}
 use Rattle.filterset_answers.specs.Compiled.{AnswersTexts, IsAskedFor, IsFilterFor, IsTreeOf, Telling}

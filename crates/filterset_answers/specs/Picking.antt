@@ -2,7 +2,7 @@
 use Rattle.std.specs.Prelude.{◌≡◌, List, [], ◌∷◌, Bool, true, Option, Some, None}
 use Rattle.std.specs.List.{AllZip, list_any}
 use Rattle.serde_json.specs.Data.{Data}
-use Rattle.filterset_drawing.specs.Columns.{Text}
+use Rattle.filterset_drawing.specs.{Columns.Text, declared.remark.Form.Form}
 use Rattle.filterset_expression.specs.declared.expression.CompiledExpr.{CompiledExpr}
 use Rattle.filterset_faults.specs.declared.span.SourceSpan.{SourceSpan}
 use Rattle.filterset_grammar.specs.Tree.{Tree}
@@ -15,8 +15,7 @@ use Rattle.filterset_listing.specs.declared.comparing.BinaryDifference.{BinaryDi
 use Rattle.filterset_listing.specs.declared.listing.BinaryPicks.{BinaryPicks}
 use Rattle.nextest_filtering.specs.declared.filterset.Filterset.{Filterset}
 use Rattle.filterset_answers.specs.{Compiled.AnswersTexts, Compiled.Telling, Overriding.CountsOverrides, Picks.ArePicks}
-use Rattle.filterset_entries.specs.Endings.{differing_ending, unknown_ending}
-use Rattle.filterset_entries.specs.{Entries.question_rows, declared.form.Form.Form}
+use Rattle.filterset_entries.specs.{Endings.differing_ending, Endings.unknown_ending, Entries.question_rows}
 use Rattle.filterset_entries.specs.declared.{question.Question.Question, setting.Setting.Setting, text.Ending.Ending}
 use Rattle.filterset_entries.specs.declared.question.Question.TheVariants as questions
 

@@ -5,8 +5,8 @@ ghost use Rattle.nextest_filtering.specs.Groups.{IsKnown};
 ghost use Rattle.filterset_answers.specs.Answers.{ChecksTexts, FaultsOf, TextFaults, counts_text, has_some, summary};
 ghost use Rattle.filterset_entries.specs.{Checked.HasFaults, Checked.text_row, Endings.ending_of};
 
-use filterset_drawing::Remark;
-use filterset_entries::{Answer, Form, Names, TextEntry, ending_of, faults_of, push_faults};
+use filterset_drawing::{Form, Remark};
+use filterset_entries::{Answer, Names, TextEntry, ending_of, faults_of, push_faults};
 use std::alloc::{AllocError, Global};
 use std::fmt::Write;
 

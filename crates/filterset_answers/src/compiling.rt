@@ -6,8 +6,9 @@ ghost use Rattle.nextest_filtering.specs.Groups.{IsKnown};
 ghost use Rattle.filterset_entries.specs.{Checked.text_row, Entries.filter_row};
 ghost use Rattle.filterset_answers.specs.Compiled.{AreCompiled, Compiles, CompilesAll, HasMade, IsFilter, IsMade, IsParsedAs};
 
+use filterset_drawing::Form;
 use filterset_entries::{
-    Form, OverrideEntry, Setting, TextEntry, fault_remarks, parse_entry, push_faults,
+    OverrideEntry, Setting, TextEntry, fault_remarks, parse_entry, push_faults,
 };
 use nextest_filtering::{Filterset, KnownGroups, ParseContext};
 use std::alloc::{AllocError, Global};

@@ -17,8 +17,9 @@ use crate::compiling::{CompiledTexts, QuestionFiltersets, compile_texts};
 use crate::grouping::{asked_overrides, group_overrides};
 use crate::overriding::answer_overrides;
 use crate::picks::{copy_expressions, expressions_of, picks_of};
+use filterset_drawing::Form;
 use filterset_entries::{
-    Answer, Ending, Form, Question, Setting, differing_ending, question_entries, unknown_ending,
+    Answer, Ending, Question, Setting, differing_ending, question_entries, unknown_ending,
 };
 use filterset_listing::{
     AskedBinary, GroupOverride, any_unknown, compare, comparison_text, differ, list_json,

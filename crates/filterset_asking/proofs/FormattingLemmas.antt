@@ -8,7 +8,7 @@ use Rattle.filterset_answers.specs.Answers.{FaultsOf, has_some}
 use Rattle.filterset_asking.specs.Formatted.{RewritesTexts, FormattedLine, FormattedPart}
 use Rattle.filterset_asking.specs.declared.formatting.Rewriting.{Rewriting}
 use Rattle.filterset_entries.specs.Checked.{HasReadingFaults, TextRow, all_remarks}
-use Rattle.filterset_entries.specs.declared.form.Form.{Form}
+use Rattle.filterset_drawing.specs.declared.remark.Form.{Form}
 use Rattle.filterset_rewriting.specs.Reading.{IsUnreadFor}
 use Rattle.filterset_rewriting.specs.declared.reading.TextRefusal.{TextRefusal, TheVariants.Found, TheVariants.TooDeep}
 

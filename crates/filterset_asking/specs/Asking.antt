@@ -3,12 +3,13 @@ use Rattle.std.specs.Prelude.{◌≡◌, ◌⊎◌, List, [], Option, Some, None
 use Rattle.std.specs.{List.AllZip, declared.io.Error.Error}
 use Rattle.serde_json.specs.{Data.Data, View.view}
 use Rattle.filterset_answers.specs.{Binaries.IsAsked, Explained.AnswersExplanation, Picking.AnswersQuestion}
-use Rattle.filterset_entries.specs.{Checked.TextRow, Checked.text_row, Endings.AnswersUnknown, Entries.default_row}
-use Rattle.filterset_entries.specs.Profile.{IsEntryOf, IsProfileOf}
-use Rattle.filterset_entries.specs.declared.{entries.ConfiguredTexts.ConfiguredTexts, form.Form.Form}
-use Rattle.filterset_entries.specs.declared.{form.Form.TheVariants.Json, setting.OverrideEntry.OverrideEntry}
-use Rattle.filterset_entries.specs.declared.{setting.Setting.Setting, text.Ending.Ending, text.TextEntry.TextEntry}
-use Rattle.filterset_drawing.specs.Columns.{Text}
+use Rattle.filterset_entries.specs.{Checked.TextRow, Checked.text_row, Endings.AnswersUnknown}
+use Rattle.filterset_entries.specs.Entries.{default_row, AreTextsOf, given_row}
+use Rattle.filterset_entries.specs.Profile.{IsEntryOf, IsProfileOf, chosen}
+use Rattle.filterset_entries.specs.declared.entries.ConfiguredTexts.{ConfiguredTexts}
+use Rattle.filterset_entries.specs.declared.setting.{OverrideEntry.OverrideEntry, Setting.Setting}
+use Rattle.filterset_entries.specs.declared.text.{Ending.Ending, TextEntry.TextEntry}
+use Rattle.filterset_drawing.specs.{declared.remark.Form.Form, declared.remark.Form.TheVariants.Json, Columns.Text}
 use Rattle.filterset_faults.specs.declared.kind.FiltersetKind.TheVariants.{DefaultFilter}
 use Rattle.filterset_graph.specs.declared.package.PackageMetadata.{PackageMetadata}
 use Rattle.filterset_listing.specs.declared.{binary.AskedBinary.AskedBinary, explaining.candidate.Candidate.Candidate}
@@ -22,15 +23,18 @@ use Rattle.filterset_sources.specs.declared.{list.Suite.Suite, platforms.BuildPl
 use Rattle.filterset_asking.specs.Explaining.{IsCandidate, IsMissing, is_uncounted}
 use Rattle.filterset_asking.specs.Overriding.{AnswersOverridesOf, LacksTests}
 use Rattle.filterset_asking.specs.{Warnings.AnswersWarnings, declared.asking.AskedWorkspace.AskedWorkspace}
-use Rattle.nextest_filtering.specs.{Groups.IsGlobalOnly, declared.compile.context.KnownGroups.KnownGroups}
-use Rattle.filterset_loading.specs.Configurations.{AreKnown, AreProfilesIn, AreTextsOf, IsProfileFault, chosen, given_row}
+use Rattle.filterset_asking.specs.declared.asking.Wanted.{Wanted, TheVariants.Answer, TheVariants.Warnings}
+use Rattle.nextest_filtering.specs.Groups.{AreGroups, IsGlobalOnly}
+use Rattle.nextest_filtering.specs.declared.compile.context.KnownGroups.{KnownGroups}
+use Rattle.filterset_loading.specs.Configurations.{AreKnown, AreProfilesIn, IsProfileFault}
 use Rattle.filterset_loading.specs.Files.{name_of}
 use Rattle.filterset_loading.specs.Workspaces.{IsPlatformsFault, IsWorkspaceFault, IsWorkspaceIn}
 use Rattle.filterset_loading.specs.declared.request.Asked.{Asked}
-use Rattle.filterset_loading.specs.declared.request.Asked.TheVariants.{Explanation, Overrides, Question, Warnings}
+use Rattle.filterset_loading.specs.declared.request.Asked.TheVariants.{Compare, Explanation, List as Listing, Overrides}
 use Rattle.filterset_loading.specs.declared.{request.WorkspaceRequest.WorkspaceRequest, fault.CommandFault.CommandFault}
 use Rattle.filterset_loading.specs.declared.profile.{KnownPlatforms.KnownPlatforms, ProfileRequest.ProfileRequest}
 use Rattle.filterset_loading.specs.declared.{profile.ProfilesFile.ProfilesFile, workspace.Workspace.Workspace}
+use Rattle.filterset_entries.specs.declared.question.Question.TheVariants as questions
 
 -- what nextest wrote of the list, where an answer of this form is in its shape
 abbrev pub kept_of : Form → Data → Option Data
@@ -38,16 +42,17 @@ kept_of Json list = Some list
 kept_of form list = None
 
 -- the answer under a setting: to a question, or why the filterset picks the binary with the id, or its test with the name;
--- or how overrides apply to tests; or what the tests say of texts
+-- or how overrides apply to tests
 abbrev pub AnswersOf : Form → Asked → Setting → List AskedBinary → Option Data → Ending → Text → Type 0
-AnswersOf form (Question question) setting binaries kept = AnswersQuestion form setting question kept binaries
+AnswersOf form (Listing filters ignores_default) setting binaries kept =
+    AnswersQuestion form setting (questions.List filters ignores_default) kept binaries
+AnswersOf form (Compare first second has_names) setting binaries kept =
+    AnswersQuestion form setting (questions.Compare first second has_names) kept binaries
 AnswersOf form (Explanation filter id test) setting binaries kept = λ ending text.
     (candidate : Candidate) × IsCandidate binaries id.now test candidate
     × AnswersExplanation form setting filter.now candidate (is_uncounted binaries id.now test) ending text
 AnswersOf form (Overrides filters binary test) setting binaries kept =
     AnswersOverridesOf form setting binaries filters binary test
-AnswersOf form (Warnings texts) setting binaries kept =
-    AnswersWarnings form texts.end setting (map text_row texts.entries.now) binaries
 
 abbrev pub AnswersUnder : WorkspaceRequest → List Suite → Option Data → Setting → Ending → Text → Type 0
 AnswersUnder request suites kept setting ending text = (binaries : List AskedBinary) × AllZip IsAsked suites binaries
@@ -88,10 +93,11 @@ AnswersProfile Answers packages given name profiles groups texts known ending te
 abbrev pub AnswersConfigured : (Text → Option Text) → (Setting → Ending → Text → Type 0) → List PackageMetadata
     → Option TextRow → ProfileRequest → BuildPlatforms → Ending → Text → Type 0
 AnswersConfigured content Answers packages given profile built ending text =
-    (file : ProfilesFile) × (known : KnownPlatforms) × (texts : ConfiguredTexts)
-    × AreProfilesIn (content profile.configuration.now) file × AreKnown content profile built known
+    (file : ProfilesFile) × (groups : KnownGroups) × (known : KnownPlatforms) × (texts : ConfiguredTexts)
+    × AreProfilesIn (content profile.configuration.now) file
+    × AreGroups (map (λ s. string_bytes s) file.groups.items) groups × AreKnown content profile built known
     × AreTextsOf (name_of profile.configuration.now) (string_bytes file.text) file.filtersets.items file.places texts
-    × AnswersProfile Answers packages given profile.name.now file.profiles.items file.groups texts known ending text
+    × AnswersProfile Answers packages given profile.name.now file.profiles.items groups texts known ending text
 
 -- what is answered of the workspace that the files describe: under no profile, or under the one that is asked for, on the
 -- platforms of the list
@@ -105,10 +111,9 @@ AnswersAsked content request ending text = (workspace : Workspace) × IsWorkspac
 
 -- the binaries lack the one that is asked about, or its test
 abbrev pub LacksOf : Text → Asked → List AskedBinary → CommandFault → Type 0
-LacksOf list (Question question) binaries fault = ⊥
 LacksOf list (Explanation filter id test) binaries fault = IsMissing list binaries id.now test fault
 LacksOf list (Overrides filters binary test) binaries fault = LacksTests list binaries binary test fault
-LacksOf list (Warnings texts) binaries fault = ⊥
+LacksOf list asked binaries fault = ⊥
 
 -- so do the binaries of the suites
 abbrev pub LacksIn : Text → Asked → List Suite → CommandFault → Type 0
@@ -120,12 +125,21 @@ abbrev pub HasParts : List PackageMetadata → KnownGroups → TextEntry → Lis
 HasParts packages groups default overrides profiles setting = (setting.graph.now ≡ packages) × (setting.groups.now ≡ groups)
     × (setting.default.now ≡ default) × (setting.overrides.now ≡ overrides) × (setting.profiles.now ≡ profiles)
 
--- the same of what is asked of a workspace
+-- what is wanted of a workspace: the answer, or what the tests say of texts
+abbrev pub AnswersWanted : Form → Wanted → Setting → List AskedBinary → Option Data → Ending → Text → Type 0
+AnswersWanted form (Answer asked) setting binaries kept = AnswersOf form asked setting binaries kept
+AnswersWanted form (Warnings entries end) setting binaries kept = AnswersWarnings form end setting (map text_row entries.now) binaries
+
 abbrev pub AnswersIn : AskedWorkspace → Option Data → Setting → Ending → Text → Type 0
-AnswersIn asked kept = AnswersUnder asked.request.now asked.suites.now kept
+AnswersIn asked kept setting ending text = (binaries : List AskedBinary) × AllZip IsAsked asked.suites.now binaries
+    × AnswersWanted asked.form asked.wanted setting binaries kept ending text
+
+abbrev pub LacksWanted : Text → Wanted → List Suite → CommandFault → Type 0
+LacksWanted list (Answer asked) suites fault = LacksIn list asked suites fault
+LacksWanted list (Warnings entries end) suites fault = ⊥
 
 abbrev pub Lacks : AskedWorkspace → CommandFault → Type 0
-Lacks asked = LacksIn (name_of asked.request.now.paths.list.now) asked.request.now.asked asked.suites.now
+Lacks asked = LacksWanted (name_of asked.list.now) asked.wanted asked.suites.now
 
 -- a file is not used, or the configuration lacks the profile, or the workspace the binary or the test; or the platforms of
 -- the list are wrong, and there is a profile

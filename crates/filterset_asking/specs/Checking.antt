@@ -2,10 +2,10 @@
 use Rattle.std.specs.Prelude.{◌≡◌, ◌⊎◌, ◌+◌, ◌++◌, ℕ, List, [], ◌∷◌, Option, Some, None, IfSome, IsSomeAnd, is_some, length, map, string_bytes}
 use Rattle.std.specs.{Borrow.Bor, Option.option_map_or, declared.io.Error.Error}
 use Rattle.filterset_answers.specs.Answers.{ChecksTexts}
-use Rattle.filterset_entries.specs.{Checked.TextRow, Endings.ending_of, Entries.rows_in, Names.KnowsNames}
-use Rattle.filterset_entries.specs.declared.{entries.ConfiguredTexts.ConfiguredTexts, form.Form.Form, names.Names.Names}
-use Rattle.filterset_entries.specs.declared.text.Ending.{Ending}
-use Rattle.filterset_drawing.specs.{Columns.Text, declared.source.Source.Source}
+use Rattle.filterset_entries.specs.{Checked.TextRow, Endings.ending_of, Entries.rows_in, Entries.AreTextsOf}
+use Rattle.filterset_entries.specs.{Names.KnowsNames, declared.entries.ConfiguredTexts.ConfiguredTexts}
+use Rattle.filterset_entries.specs.declared.{names.Names.Names, text.Ending.Ending}
+use Rattle.filterset_drawing.specs.{declared.remark.Form.Form, Columns.Text, declared.source.Source.Source}
 use Rattle.filterset_json.specs.Pieces.{Pieces}
 use Rattle.filterset_graph.specs.declared.package.PackageMetadata.{PackageMetadata}
 use Rattle.filterset_configuration.specs.declared.{place.Place.Place, places.Places.Places}
@@ -13,7 +13,7 @@ use Rattle.filterset_configuration.specs.{Profiles.HasProfiles, Wrong.AreWrongVa
 use Rattle.filterset_configuration.specs.declared.{profiles.Profile.Profile, wrong.WrongValue.WrongValue}
 use Rattle.filterset_sources.specs.{Configurations.RefusesConfiguration, Metadata.RefusesMetadata}
 use Rattle.filterset_sources.specs.declared.configuration.Configuration.{Configuration}
-use Rattle.filterset_loading.specs.Configurations.{AreTextsOf, HasNamed, IsConfigurationIn, IsRefusedProfile, LacksName}
+use Rattle.filterset_loading.specs.Configurations.{HasNamed, IsConfigurationIn, IsRefusedProfile, LacksName}
 use Rattle.filterset_loading.specs.Files.{BySource, IsFileFault, name_of}
 use Rattle.filterset_loading.specs.Workspaces.{KnownPackages, RefusesValue}
 use Rattle.filterset_loading.specs.declared.{request.CheckPaths.CheckPaths, fault.CommandFault.CommandFault}

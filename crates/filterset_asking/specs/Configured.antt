@@ -1,9 +1,9 @@
 -- The warnings of a configuration's file.
 use Rattle.std.specs.{Prelude.◌≡◌, Prelude.ℕ, Prelude.List, Prelude.None, Prelude.Some, Prelude.length, Borrow.Bor}
 use Rattle.filterset_entries.specs.{Entries.rows_in, Forms.IsWritten, Forms.Writing, Forms.writing, Placements.line}
-use Rattle.filterset_entries.specs.Unread.{AreUnreadRemarks}
-use Rattle.filterset_entries.specs.declared.{entries.ConfiguredTexts.ConfiguredTexts, form.Form.Form}
-use Rattle.filterset_drawing.specs.{Columns.Text, Remarks.RemarkRow, declared.source.Source.Source}
+use Rattle.filterset_entries.specs.{Unread.AreUnreadRemarks, declared.entries.ConfiguredTexts.ConfiguredTexts}
+use Rattle.filterset_drawing.specs.{declared.remark.Form.Form, Columns.Text, Remarks.RemarkRow}
+use Rattle.filterset_drawing.specs.declared.source.Source.{Source}
 use Rattle.filterset_json.specs.Pieces.{Pieces}
 
 -- what nextest does not read of a configuration, and how many remarks on that are written

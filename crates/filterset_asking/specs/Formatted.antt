@@ -4,7 +4,8 @@ use Rattle.filterset_drawing.specs.Columns.{Text}
 use Rattle.filterset_faults.specs.declared.span.SourceSpan.{SourceSpan}
 use Rattle.filterset_grammar.specs.{Printing.printed, Tree.Tree}
 use Rattle.filterset_json.specs.Pieces.{Pieces}
-use Rattle.filterset_entries.specs.{Checked.HasReadingFaults, Checked.TextRow, declared.form.Form.Form}
+use Rattle.filterset_drawing.specs.declared.remark.Form.{Form}
+use Rattle.filterset_entries.specs.Checked.{HasReadingFaults, TextRow}
 use Rattle.filterset_answers.specs.Answers.{FaultsOf}
 use Rattle.filterset_deciding.specs.Simplifying.Simplified.{IsSimplified}
 use Rattle.filterset_rewriting.specs.Reading.{IsRead}

@@ -1,9 +1,8 @@
 -- What is written of the wrong values of a configuration.
 use Rattle.std.specs.Prelude.{◌++◌, Option, None, codes, length, option_map, string_bytes}
 use Rattle.std.specs.Borrow.{Bor}
-use Rattle.filterset_entries.specs.Forms.{IsWritten, writing}
-use Rattle.filterset_entries.specs.{Placements.Placement, Placements.literal, declared.form.Form.Form}
-use Rattle.filterset_drawing.specs.{Columns.Text, Remarks.RemarkRow, Remarks.said}
+use Rattle.filterset_entries.specs.{Forms.IsWritten, Forms.writing, Placements.Placement, Placements.literal}
+use Rattle.filterset_drawing.specs.{declared.remark.Form.Form, Columns.Text, Remarks.RemarkRow, Remarks.said}
 use Rattle.filterset_drawing.specs.declared.{remark.Severity.TheVariants.Error, source.Source.Source}
 use Rattle.filterset_faults.specs.Span.{span}
 use Rattle.filterset_configuration.specs.declared.wrong.WrongValue.{WrongValue}

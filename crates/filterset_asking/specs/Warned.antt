@@ -3,10 +3,10 @@ use Rattle.std.specs.Prelude.{◌≡◌, ◌⊎◌, ◌==◌, List, [], ◌∷�
 use Rattle.std.specs.{Borrow.Bor, List.AllZip, declared.io.Error.Error}
 use Rattle.serde_json.specs.Data.{Data}
 use Rattle.filterset_answers.specs.Binaries.{IsAsked}
-use Rattle.filterset_entries.specs.{Checked.TextRow, declared.entries.ConfiguredTexts.ConfiguredTexts}
-use Rattle.filterset_entries.specs.declared.{form.Form.Form, setting.Setting.Setting}
+use Rattle.filterset_entries.specs.Checked.{TextRow}
+use Rattle.filterset_entries.specs.declared.{entries.ConfiguredTexts.ConfiguredTexts, setting.Setting.Setting}
 use Rattle.filterset_entries.specs.declared.text.{Ending.Ending, Ending.TheVariants.Fine, WarningEnd.WarningEnd}
-use Rattle.filterset_drawing.specs.Columns.{Text}
+use Rattle.filterset_drawing.specs.{declared.remark.Form.Form, Columns.Text}
 use Rattle.filterset_graph.specs.declared.package.PackageMetadata.{PackageMetadata}
 use Rattle.filterset_listing.specs.declared.binary.AskedBinary.{AskedBinary}
 use Rattle.filterset_configuration.specs.Profiles.{HasProfiles}

@@ -4,12 +4,12 @@ use Rattle.std.specs.List.{count_by}
 use Rattle.filterset_answers.specs.{Answers.FaultsOf, Compiled.Basis as SettingBasis}
 use Rattle.filterset_entries.specs.Checked.{IsAccepted, IsRefusedFor, HasRefusal, TextRow}
 use Rattle.filterset_entries.specs.{Entries.setting_rows, Forms.IsWritten, Forms.text_writing}
-use Rattle.filterset_entries.specs.declared.{form.Form.Form, form.Form.TheVariants.Drawn, setting.Setting.Setting}
-use Rattle.filterset_entries.specs.declared.text.Ending.{Ending, TheVariants.Faulty, TheVariants.Fine}
+use Rattle.filterset_entries.specs.declared.{setting.Setting.Setting, text.Ending.Ending}
+use Rattle.filterset_entries.specs.declared.text.Ending.TheVariants.{Faulty, Fine}
 use Rattle.filterset_entries.specs.declared.text.WarningEnd.{WarningEnd}
+use Rattle.filterset_drawing.specs.{declared.remark.Form.Form, declared.remark.Form.TheVariants.Drawn, Columns.Text}
+use Rattle.filterset_drawing.specs.{Remarks.RemarkRow, Remarks.said, declared.remark.Severity.TheVariants.Warning}
 use Rattle.filterset_rewriting.specs.declared.reading.TextRefusal.{TextRefusal}
-use Rattle.filterset_drawing.specs.{Columns.Text, Remarks.RemarkRow, Remarks.said}
-use Rattle.filterset_drawing.specs.declared.remark.Severity.TheVariants.{Warning}
 use Rattle.filterset_faults.specs.declared.span.SourceSpan.{SourceSpan}
 use Rattle.filterset_grammar.specs.{Printing.printed, Tree.Tree}
 use Rattle.filterset_listing.specs.{Subjects.AreSubjects, Needless.AreNeedless, Needless.Found, SubjectValues.Basis}

@@ -2,19 +2,22 @@
 //! why, and how overrides apply to its tests.
 ghost use Rattle.std.specs.Prelude.{◌≡◌, IfErr, IfOk, IfSome, option_map, string_bytes};
 ghost use Rattle.serde_json.specs.View.{view};
-ghost use Rattle.filterset_entries.specs.Checked.{text_row};
+ghost use Rattle.filterset_entries.specs.{Checked.text_row, Entries.given_row};
 ghost use Rattle.filterset_entries.specs.declared.setting.Setting as settings;
 ghost use Rattle.filterset_faults.specs.declared.kind.FiltersetKind.TheVariants as kinds;
 ghost use Rattle.nextest_filtering.specs.Groups.{IsKnown};
 ghost use Rattle.filterset_asking.specs.Asking.{AnswersAsked, AnswersIn, AnswersOf, HasParts, IsAskedFault, IsPlain, Lacks, LacksOf, kept_of};
-ghost use Rattle.filterset_loading.specs.{Configurations.given_row, Files.OrMemory};
+ghost use Rattle.filterset_loading.specs.Files.{OrMemory};
 
 use crate::explaining::{candidate_of, is_uncounted};
 use crate::overriding::ask_overrides;
 use crate::profiled::ask_configured;
 use crate::setting::warn_setting;
 use filterset_answers::{ask_workspace, asked_binaries, explain_filterset};
-use filterset_entries::{Answer, Form, OverrideEntry, Question, Setting, TextEntry, default_entry};
+use filterset_drawing::Form;
+use filterset_entries::{
+    Answer, OverrideEntry, Question, Setting, TextEntry, WarningEnd, default_entry,
+};
 use filterset_graph::PackageGraph;
 use filterset_listing::AskedBinary;
 use filterset_loading::{
@@ -37,10 +40,25 @@ pub fn kept_of(form: Form, list: Value) -> Option<Value>
     }
 }
 
+/// What is wanted of a workspace.
+#[derive(Clone, Copy)]
+pub enum Wanted<'a> {
+    /// The answer to what the command line asks.
+    Answer(Asked<'a>),
+    /// What the tests say of texts that are checked.
+    Warnings {
+        entries: &'a [TextEntry<'a>],
+        end: WarningEnd,
+    },
+}
+
 /// What is asked of a workspace, its packages and its test binaries.
 #[derive(Clone, Copy)]
-pub struct AskedWorkspace<'a, 'w> {
-    pub request: &'a WorkspaceRequest<'w>,
+pub struct AskedWorkspace<'a> {
+    pub form: Form,
+    /// The path of nextest's list.
+    pub list: &'a str,
+    pub wanted: Wanted<'a>,
     pub graph: &'a PackageGraph,
     pub suites: &'a [Suite],
 }
@@ -52,51 +70,60 @@ fn answer_asked(
     form: Form,
     list: &str,
     setting: &Setting<'_>,
-    asked: &Asked<'_>,
+    asked: Asked<'_>,
     kept: Option<Value>,
     binaries: &[AskedBinary<'_>],
 ) -> Result<Answer, CommandFault>
     requires kind { setting.now.default.now.kind ≡ kinds.DefaultFilter }
     requires groups { IsKnown setting.now.groups.now }
-    ensures answered { IfOk result (λ answer. AnswersOf form asked.now setting.now binaries.now (option_map view kept)
+    ensures answered { IfOk result (λ answer. AnswersOf form asked.entry setting.now binaries.now (option_map view kept)
         answer.ending (string_bytes answer.text)) }
-    ensures missing { IfErr result (OrMemory (LacksOf list.now asked.now binaries.now)) }
+    ensures missing { IfErr result (OrMemory (LacksOf list.now asked.entry binaries.now)) }
 {
     match asked {
-        Asked::Question(question) => {
-            Ok(ask_workspace(alloc, form, setting, question, kept, binaries)?)
+        Asked::List {
+            filters,
+            ignores_default,
+        } => {
+            let question = Question::List {
+                filters,
+                ignores_default,
+            };
+            Ok(ask_workspace(alloc, form, setting, &question, kept, binaries)?)
+        }
+        Asked::Compare {
+            first,
+            second,
+            has_names,
+        } => {
+            let question = Question::Compare {
+                first,
+                second,
+                has_names,
+            };
+            Ok(ask_workspace(alloc, form, setting, &question, kept, binaries)?)
         }
         Asked::Explanation {
             filter,
             binary,
             test,
         } => {
-            let candidate = candidate_of(alloc, list, binary, *test, binaries)?;
-            let is_ignored = is_uncounted(binaries, binary, *test);
+            let candidate = candidate_of(alloc, list, binary, test, binaries)?;
+            let is_ignored = is_uncounted(binaries, binary, test);
             Ok(explain_filterset(alloc, form, setting, filter, candidate, is_ignored)?)
         }
         Asked::Overrides {
             filters,
             binary,
             test,
-        } => ask_overrides(
-            alloc, form, list, setting, *filters, *binary, *test, binaries,
-        ),
-        Asked::Warnings(texts) => Ok(warn_setting(
-            alloc,
-            form,
-            texts.end,
-            setting,
-            texts.entries,
-            binaries,
-        )?),
+        } => ask_overrides(alloc, form, list, setting, filters, binary, test, binaries),
     }
 }
 
 /// Answers under a default filter, overrides and profiles. `kept` is nextest's list, if the answer has its shape.
 pub fn ask_under(
     alloc: Global,
-    asked: &AskedWorkspace<'_, '_>,
+    asked: &AskedWorkspace<'_>,
     groups: &KnownGroups,
     default: &TextEntry<'_>,
     overrides: &[OverrideEntry<'_>],
@@ -118,16 +145,22 @@ pub fn ask_under(
         overrides,
         profiles,
     };
-    let request = asked.request;
-    answer_asked(
-        alloc,
-        request.form,
-        name_of(request.paths.list),
-        &setting,
-        &request.asked,
-        kept,
-        binaries.as_slice(),
-    )
+    match asked.wanted {
+        Wanted::Answer(own) => answer_asked(
+            alloc,
+            asked.form,
+            name_of(asked.list),
+            &setting,
+            own,
+            kept,
+            binaries.as_slice(),
+        ),
+        Wanted::Warnings { entries, end } => {
+            let binaries = binaries.as_slice();
+            let form = asked.form;
+            Ok(warn_setting(alloc, form, end, &setting, entries, binaries)?)
+        }
+    }
 }
 
 /// Makes the entry of the default filter that is given, if one is.
@@ -147,7 +180,7 @@ fn given_default<'w>(
 /// Answers without a profile: under the default filter that is given, or else all tests.
 pub fn ask_plainly(
     alloc: Global,
-    asked: &AskedWorkspace<'_, '_>,
+    asked: &AskedWorkspace<'_>,
     given: Option<TextEntry<'_>>,
     kept: Option<Value>,
 ) -> Result<Answer, CommandFault>
@@ -180,7 +213,9 @@ pub fn ask<F: FileSource>(
 {
     let Workspace { graph, list, value } = read_workspace(alloc, files, &request.paths)?;
     let asked = AskedWorkspace {
-        request,
+        form: request.form,
+        list: request.paths.list,
+        wanted: Wanted::Answer(request.asked),
         graph: &graph,
         suites: list.suites.as_slice(),
     };

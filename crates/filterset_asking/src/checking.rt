@@ -13,15 +13,14 @@ use crate::values::add_values;
 use crate::warning::{CheckedTexts, join_answers, warn_checked};
 use filterset_answers::check;
 use filterset_configuration::{WrongValue, find_wrong_values};
-use filterset_drawing::Source;
+use filterset_drawing::{Form, Source};
 use filterset_entries::{
-    Answer, ConfiguredTexts, Form, Names, TextEntry, WarningEnd, configured_entries,
+    Answer, ConfiguredTexts, Names, TextEntry, WarningEnd, configured_entries, configured_texts,
 };
 use filterset_graph::PackageGraph;
 use filterset_loading::{
     CheckPaths, CommandFault, ConfigurationFile, FileRole, FileSource, WarningRequest,
-    configured_texts, known_packages, lineage_of, name_of, profiles_in, read_configuration_file,
-    request_of,
+    known_packages, lineage_of, name_of, profiles_in, read_configuration_file, request_of,
 };
 use filterset_sources::Configuration;
 use std::alloc::{AllocError, Global};

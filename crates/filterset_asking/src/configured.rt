@@ -3,8 +3,9 @@ ghost use Rattle.std.specs.Prelude.{IfOk, string_bytes};
 ghost use Rattle.filterset_asking.specs.Configured.{WarnsOfFile};
 
 use filterset_configuration::Stretch;
+use filterset_drawing::Form;
 use filterset_entries::{
-    ConfiguredTexts, FilePlace, Form, RemarkWriter, Spot, configured_entries, unread_remarks,
+    ConfiguredTexts, FilePlace, RemarkWriter, Spot, configured_entries, unread_remarks,
 };
 use std::alloc::{AllocError, Global};
 

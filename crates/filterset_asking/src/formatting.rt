@@ -8,7 +8,8 @@ ghost use Rattle.filterset_entries.specs.{Checked.HasReadingFaults, Checked.text
 ghost use Rattle.filterset_language.specs.Views.{tree_of};
 
 use filterset_deciding::simplify;
-use filterset_entries::{Answer, Form, TextEntry, ending_of, fault_remarks, push_faults};
+use filterset_drawing::Form;
+use filterset_entries::{Answer, TextEntry, ending_of, fault_remarks, push_faults};
 use filterset_rewriting::read_text;
 use nextest_filtering::ParsedExpr;
 use std::alloc::{AllocError, Global};

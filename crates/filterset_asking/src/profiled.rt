@@ -14,11 +14,12 @@ use filterset_configuration::{
 };
 use filterset_drawing::Source;
 use filterset_entries::{
-    Answer, ConfiguredTexts, TextEntry, answer_unknown, asked_profiles, override_entries,
+    Answer, ChosenFilter, ConfiguredTexts, TextEntry, answer_unknown, asked_profiles, choose,
+    configured_texts, override_entries,
 };
 use filterset_loading::{
-    ChosenFilter, CommandFault, FileSource, KnownPlatforms, ProfileRequest, ProfilesFile, choose,
-    configured_texts, lineage_of, name_of, read_facts, read_profiles_file,
+    CommandFault, FileSource, KnownPlatforms, ProfileRequest, ProfilesFile, lineage_of, name_of,
+    read_facts, read_profiles_file,
 };
 use filterset_sources::BuildPlatforms;
 use nextest_filtering::{FiltersetKind, KnownGroups};
@@ -28,7 +29,7 @@ use std::alloc::Global;
 /// Answers under a default filter, the profiles of a lineage and their overrides.
 fn ask_with(
     alloc: Global,
-    asked: &AskedWorkspace<'_, '_>,
+    asked: &AskedWorkspace<'_>,
     groups: &KnownGroups,
     texts: ConfiguredTexts<'_>,
     lineage: &[&Profile],
@@ -59,7 +60,7 @@ fn ask_with(
 /// Answers under the overrides of a lineage.
 fn ask_ranked<'p>(
     alloc: Global,
-    asked: &AskedWorkspace<'_, '_>,
+    asked: &AskedWorkspace<'_>,
     groups: &KnownGroups,
     texts: ConfiguredTexts<'p>,
     given: Option<TextEntry<'p>>,
@@ -87,7 +88,7 @@ fn ask_ranked<'p>(
 /// Answers under the profile that is asked for.
 pub fn ask_profile<'p>(
     alloc: Global,
-    asked: &AskedWorkspace<'_, '_>,
+    asked: &AskedWorkspace<'_>,
     profile: &ProfileRequest<'_>,
     profiles: &'p [Profile],
     groups: &KnownGroups,
@@ -123,7 +124,7 @@ pub fn ask_profile<'p>(
 pub fn ask_configured<F: FileSource>(
     alloc: Global,
     files: &F,
-    asked: &AskedWorkspace<'_, '_>,
+    asked: &AskedWorkspace<'_>,
     profile: &ProfileRequest<'_>,
     built: BuildPlatforms,
     given: Option<TextEntry<'_>>,
@@ -144,6 +145,7 @@ pub fn ask_configured<F: FileSource>(
         profiles,
     } = read_profiles_file(alloc, files, profile.configuration)?;
     let known = read_facts(alloc, files, profile, built)?;
+    let groups = KnownGroups::of(alloc, groups)?;
     let source = Source::new(alloc, name_of(profile.configuration), text.as_str())?;
     let texts = configured_texts(&source, filtersets.as_slice(), &places);
     ask_profile(

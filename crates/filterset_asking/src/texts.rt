@@ -8,8 +8,8 @@ ghost use Rattle.nextest_filtering.specs.{Compiling.packages_of, Groups.IsKnown}
 ghost use Rattle.filterset_asking.specs.{Contexts.basis_of, Warnings.TextWarnings, Warnings.WarningsOf};
 
 use crate::hints::remarks_of;
-use filterset_drawing::Source;
-use filterset_entries::{Form, RemarkWriter, TextEntry, parse_entry};
+use filterset_drawing::{Form, Source};
+use filterset_entries::{RemarkWriter, TextEntry, parse_entry};
 use filterset_listing::{Subject, find_hints};
 use nextest_filtering::{EvalContext, Filterset, KnownGroups, ParseContext};
 use std::alloc::{AllocError, Global};

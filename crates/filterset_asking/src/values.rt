@@ -6,8 +6,8 @@ ghost use Rattle.filterset_json.specs.Pieces.{Pieces};
 ghost use Rattle.filterset_asking.specs.Values.{IsValuePiece, value_place, value_remark};
 
 use filterset_configuration::WrongValue;
-use filterset_drawing::{Remark, Severity, Source};
-use filterset_entries::{Answer, Ending, FilePlace, Form, RemarkWriter, Spot};
+use filterset_drawing::{Form, Remark, Severity, Source};
+use filterset_entries::{Answer, Ending, FilePlace, RemarkWriter, Spot};
 use filterset_faults::SourceSpan;
 use std::alloc::{AllocError, Global};
 

@@ -9,14 +9,15 @@ ghost use Rattle.filterset_asking.specs.Asking.{AnswersIn, Lacks};
 ghost use Rattle.filterset_asking.specs.Warned.{AnswersListed, AnswersWarned, HasConfiguration, IsListedFault, IsProfileUnused, IsWarnedFault, WarnsBy, either_ending};
 ghost use Rattle.filterset_loading.specs.{Files.OrMemory, Configurations.profile_at};
 
-use crate::asking::{AskedWorkspace, ask_plainly};
+use crate::asking::{AskedWorkspace, Wanted, ask_plainly};
 use crate::profiled::ask_profile;
 use crate::setting::count_warnings;
-use filterset_entries::{Answer, ConfiguredTexts, Ending, Form, TextEntry, WarningEnd};
+use filterset_drawing::Form;
+use filterset_entries::{Answer, ConfiguredTexts, Ending, TextEntry, WarningEnd};
 use filterset_graph::PackageGraph;
 use filterset_loading::{
-    Asked, CommandFault, FileSource, ProfileRequest, WarnedTexts, WarningRequest, WorkspaceRequest,
-    platforms_of, profiles_in, read_facts, read_list,
+    CommandFault, FileSource, ProfileRequest, WarningRequest, platforms_of, profiles_in,
+    read_facts, read_list,
 };
 use nextest_filtering::KnownGroups;
 use serde_json::Value;
@@ -41,7 +42,7 @@ pub struct CheckedTexts<'c> {
 fn warn_configured<F: FileSource>(
     alloc: Global,
     files: &F,
-    asked: &AskedWorkspace<'_, '_>,
+    asked: &AskedWorkspace<'_>,
     texts: &CheckedTexts<'_>,
     profile: &ProfileRequest<'_>,
     value: &Value,
@@ -53,11 +54,11 @@ fn warn_configured<F: FileSource>(
         texts.now.groups.now texts.now.configured profile.now (view value.now) answer.ending (string_bytes answer.text)) }
     ensures refused { IfErr result (OrMemory (λ fault. Lacks asked.now fault
         ⊎ IsProfileUnused (F.content files.now) (F.fails files.now) texts.now.configured.file.now.text.now
-        asked.now.request.now.paths.list.now (view value.now) profile.now fault)) }
+        asked.now.list.now (view value.now) profile.now fault)) }
 {
-    let (request, file) = (asked.request, texts.configured.file);
-    let built = platforms_of(alloc, request.paths.list, value)?;
-    let profiles = profiles_in(alloc, profile.configuration, file.text)?;
+    let built = platforms_of(alloc, asked.list, value)?;
+    let text = texts.configured.file.text;
+    let profiles = profiles_in(alloc, profile.configuration, text)?;
     let known = read_facts(alloc, files, profile, built)?;
     ask_profile(
         alloc,
@@ -89,18 +90,13 @@ fn warn_listed<'x, F: FileSource>(
 {
     let (path, run_ignored) = (request.paths.list, request.paths.run_ignored);
     let (list, value) = read_list(alloc, files, path, texts.graph, run_ignored)?;
-    let own = WorkspaceRequest {
-        paths: request.paths,
+    let asked = AskedWorkspace {
         form: texts.form,
-        default_filter: None,
-        profile: None,
-        asked: Asked::Warnings(WarnedTexts {
+        list: path,
+        wanted: Wanted::Warnings {
             entries: texts.entries,
             end: texts.end,
-        }),
-    };
-    let asked = AskedWorkspace {
-        request: &own,
+        },
         graph: texts.graph,
         suites: list.suites.as_slice(),
     };

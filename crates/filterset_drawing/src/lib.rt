@@ -16,5 +16,5 @@ pub use annotation::push_annotation;
 pub use color::Color;
 pub use drawing::{Canvas, draw_remark};
 pub use json::remark_json;
-pub use remark::{Remark, Severity};
+pub use remark::{Form, Remark, Severity};
 pub use source::{FileSpan, Location, Source};

@@ -2,8 +2,20 @@
 ghost use Rattle.std.specs.Prelude.{◌≡◌, IfOk};
 ghost use Rattle.filterset_drawing.specs.Remarks.{fault_remark, remark_row, word_of};
 
+use crate::color::Color;
 use filterset_faults::{ParseSingleError, SourceSpan};
 use std::alloc::{AllocError, Global};
+
+/// How remarks are written.
+#[derive(Clone, Copy, Debug, PartialEq, Eq)]
+pub enum Form {
+    /// Drawn under their text, for people.
+    Drawn(Color),
+    /// As JSON, one object a line.
+    Json,
+    /// As commands of a GitHub workflow, one a line.
+    Github,
+}
 
 /// How bad it is what a remark says.
 #[derive(Clone, Copy)]

@@ -1,11 +1,11 @@
 -- Which texts commands check, format or ask, as rows: where a text comes from, what it has to be, and the text.
-use Rattle.std.specs.Prelude.{ℕ, ◌+◌, ◌-◌, ◌==◌, ◌&&◌, ◌||◌, ◌++◌, Bool, false, true, not, List, [], ◌∷◌, None, Option, Some, codes, decimal, drop, filter_map, if◌then◌else◌, length, map, option_map, string_bytes, sum_by, take}
+use Rattle.std.specs.Prelude.{◌≡◌, ℕ, ◌+◌, ◌-◌, ◌==◌, ◌&&◌, ◌||◌, ◌++◌, Bool, false, true, not, List, [], ◌∷◌, None, Option, Some, codes, decimal, drop, filter_map, if◌then◌else◌, length, map, option_map, string_bytes, sum_by, take}
 use Rattle.std.specs.{Borrow.Bor, List.enumerate_from, Str.bytes_eq, Str.trim_start, Str.Lines.lines}
 use Rattle.filterset_drawing.specs.{Columns.Text, Lines.pieces, declared.source.Source.Source}
 use Rattle.filterset_faults.specs.declared.kind.FiltersetKind.{FiltersetKind}
 use Rattle.filterset_faults.specs.declared.kind.FiltersetKind.TheVariants as kinds
 use Rattle.filterset_sources.specs.declared.configuration.ConfiguredFilterset.{ConfiguredFilterset}
-use Rattle.filterset_configuration.specs.Places.{place_at}
+use Rattle.filterset_configuration.specs.{Places.place_at, declared.places.Places.Places}
 use Rattle.filterset_entries.specs.Checked.{TextRow, row_of, text_row}
 use Rattle.filterset_entries.specs.Placements.{Placement, line, literal}
 use Rattle.filterset_entries.specs.declared.{entries.ConfiguredTexts.ConfiguredTexts, question.Question.Question}
@@ -69,6 +69,12 @@ abbrev pub placement_at : ConfiguredTexts → ℕ → Option Placement
 placement_at texts at =
     option_map (λ p. record { file = texts.file; spot = literal p }) (place_at texts.places.now.places.items at)
 
+-- the filtersets of a file with these bytes, and their places
+abbrev pub AreTextsOf : Text → Text → List ConfiguredFilterset → Places → ConfiguredTexts → Type 0
+AreTextsOf name bytes filtersets places texts =
+    (texts.file.now.origin.now ≡ name) × (texts.file.now.text.now ≡ bytes)
+    × (texts.filtersets.now ≡ filtersets) × (texts.places.now ≡ places)
+
 abbrev pub placed_row : ConfiguredTexts → ℕ × ConfiguredFilterset → TextRow
 placed_row texts numbered = file_row (placement_at texts numbered.0) numbered.1
 
@@ -91,6 +97,9 @@ test_row origin text = row_of origin kinds.Test text
 
 abbrev pub default_row : Text → TextRow
 default_row text = row_of (codes "--default-filter") kinds.DefaultFilter text
+
+abbrev pub given_row : Option (Bor Text) → Option TextRow
+given_row given = option_map (λ t. default_row t.now) given
 
 -- the rows of the filtersets of a question: those of a union are numbered, and two that are compared are `A` and `B`
 abbrev pub question_rows : Question → List TextRow

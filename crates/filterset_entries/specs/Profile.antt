@@ -1,5 +1,5 @@
 -- The texts of a profile, each with its path in the configuration and its place in the file, and the keys that it sets.
-use Rattle.std.specs.Prelude.{◌≡◌, ◌++◌, codes, option_and_then, option_map, position, string_bytes}
+use Rattle.std.specs.Prelude.{◌≡◌, ◌++◌, None, Option, Some, Err, Ok, Result, codes, option_and_then, option_map, position, string_bytes}
 use Rattle.std.specs.Str.{bytes_eq}
 use Rattle.filterset_drawing.specs.Columns.{Text}
 use Rattle.filterset_faults.specs.declared.kind.FiltersetKind.{FiltersetKind}
@@ -7,8 +7,11 @@ use Rattle.filterset_faults.specs.declared.kind.FiltersetKind.TheVariants as kin
 use Rattle.filterset_overrides.specs.declared.asked.AskedProfile.{AskedProfile}
 use Rattle.filterset_configuration.specs.declared.{profiles.Profile.Profile, ranking.RankedOverride.RankedOverride}
 use Rattle.filterset_entries.specs.Checked.{TextRow, row_of, text_row}
-use Rattle.filterset_entries.specs.{Entries.placement_at, declared.entries.ConfiguredTexts.ConfiguredTexts}
-use Rattle.filterset_entries.specs.declared.setting.OverrideEntry.{OverrideEntry}
+use Rattle.filterset_configuration.specs.declared.defaults.DefaultFilter as defaults
+use Rattle.filterset_configuration.specs.declared.defaults.DefaultFilter.TheVariants.{All, Set, Unknown}
+use Rattle.filterset_entries.specs.{Entries.default_row, Entries.placement_at, declared.entries.ConfiguredTexts.ConfiguredTexts}
+use Rattle.filterset_entries.specs.declared.{profile.ChosenFilter.ChosenFilter, setting.OverrideEntry.OverrideEntry}
+use Rattle.filterset_entries.specs.declared.profile.ChosenFilter.TheVariants as chosens
 
 -- the text that a configuration has at a path, and where that is in the file, if it was found there
 abbrev pub row_at : ConfiguredTexts → Text → FiltersetKind → Text → TextRow
@@ -29,3 +32,16 @@ IsEntryOf texts ranked entry = let path = string_bytes ranked.path in
 abbrev pub IsProfileOf : Profile → AskedProfile → Type 0
 IsProfileOf profile asked =
     (asked.name.now ≡ string_bytes profile.name) × (asked.settings.now ≡ profile.settings.items)
+
+-- the default filter that is given, or else that of the profile, or all tests; or the path that it is not known by
+abbrev pub chosen : ConfiguredTexts → Option TextRow → defaults.DefaultFilter → Result TextRow Text
+chosen texts (Some row) filter = Ok row
+chosen texts None (Set path text) = Ok (row_at texts (string_bytes path) kinds.DefaultFilter text.now)
+chosen texts None (Unknown path) = Err (string_bytes path)
+chosen texts None All = Ok (default_row (codes "all()"))
+
+-- the default filter that is given, or else that of the profile or all tests; or the path that says why it is not known
+abbrev pub IsChosen : ConfiguredTexts → Option TextRow → defaults.DefaultFilter → ChosenFilter → Type 0
+IsChosen texts given filter (chosens.Entry entry) =
+    (chosen texts given filter ≡ Ok (text_row entry)) × (entry.kind ≡ kinds.DefaultFilter)
+IsChosen texts given filter (chosens.Unknown path) = chosen texts given filter ≡ Err (string_bytes path)

@@ -9,20 +9,9 @@ ghost use Rattle.filterset_entries.specs.Forms.{FaultPieces, IsWritten, name_of,
 use crate::place::{FilePlace, Spot, file_part};
 use crate::text::TextEntry;
 use filterset_drawing::{
-    Canvas, Color, FileSpan, Remark, Source, draw_remark, push_annotation, remark_json,
+    Canvas, FileSpan, Form, Remark, Source, draw_remark, push_annotation, remark_json,
 };
 use std::alloc::{AllocError, Global};
-
-/// How remarks are written.
-#[derive(Clone, Copy, Debug, PartialEq, Eq)]
-pub enum Form {
-    /// Drawn under their text, for people.
-    Drawn(Color),
-    /// As JSON, one object a line.
-    Json,
-    /// As commands of a GitHub workflow, one a line.
-    Github,
-}
 
 /// Writes remarks on a text.
 #[derive(Clone, Copy)]

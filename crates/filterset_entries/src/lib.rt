@@ -19,10 +19,10 @@ pub use entries::{
     input_entries, line_entries, question_entries,
 };
 pub use faults::{fault_remarks, faults_of, parse_entry};
-pub use form::{Form, RemarkWriter, push_faults};
+pub use form::{RemarkWriter, push_faults};
 pub use names::Names;
 pub use place::{FilePlace, Spot, file_part, leaf_span};
-pub use profile::{asked_profiles, entry_at, override_entries};
+pub use profile::{ChosenFilter, asked_profiles, choose, entry_at, override_entries};
 pub use question::Question;
 pub use setting::{OverrideEntry, Setting};
 pub use text::{

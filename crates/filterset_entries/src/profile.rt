@@ -1,12 +1,12 @@
 //! The texts of a profile, which are its default filter and the filters of its overrides, and the keys that it sets.
-ghost use Rattle.std.specs.Prelude.{◌≡◌, ◌++◌, IfOk, codes, map, option_map, position, string_bytes};
+ghost use Rattle.std.specs.Prelude.{◌≡◌, ◌++◌, IfOk, IfSome, codes, map, option_map, position, string_bytes};
 ghost use Rattle.std.specs.{List.AllZip, Str.bytes_eq};
-ghost use Rattle.filterset_entries.specs.{Checked.text_row, Profile.IsEntryOf, Profile.IsProfileOf, Profile.row_at};
+ghost use Rattle.filterset_entries.specs.{Checked.text_row, Profile.IsChosen, Profile.IsEntryOf, Profile.IsProfileOf, Profile.row_at};
 
-use crate::entries::{ConfiguredTexts, place_at};
+use crate::entries::{ConfiguredTexts, default_entry, place_at};
 use crate::setting::OverrideEntry;
 use crate::text::TextEntry;
-use filterset_configuration::{Profile, RankedOverride};
+use filterset_configuration::{DefaultFilter, Profile, RankedOverride};
 use filterset_overrides::AskedProfile;
 use filterset_sources::ConfiguredFilterset;
 use nextest_filtering::FiltersetKind;
@@ -111,4 +111,35 @@ pub fn asked_profiles<'t>(
         })?;
     }
     Ok(asked)
+}
+
+/// What is known of a default filter.
+#[derive(Drop)]
+pub enum ChosenFilter<'t> {
+    Entry(TextEntry<'t>),
+    /// It depends on the platform of the override at this path.
+    Unknown(String),
+}
+
+/// Makes the entry of the default filter that is given, or else of the profile's.
+pub fn choose<'t>(
+    alloc: Global,
+    texts: ConfiguredTexts<'t>,
+    given: Option<TextEntry<'t>>,
+    filter: DefaultFilter<'t>,
+) -> Result<ChosenFilter<'t>, AllocError>
+    requires { IfSome given (λ entry. entry.kind ≡ FiltersetKind.DefaultFilter) }
+    ensures { IfOk result (IsChosen texts.entry (option_map text_row given.entry) filter.entry) }
+{
+    if let Some(entry) = given {
+        return Ok(ChosenFilter::Entry(entry));
+    }
+    match filter {
+        DefaultFilter::Set { path, text } => {
+            let entry = entry_at(texts, path, FiltersetKind::DefaultFilter, text);
+            Ok(ChosenFilter::Entry(entry))
+        }
+        DefaultFilter::Unknown { path } => Ok(ChosenFilter::Unknown(path)),
+        DefaultFilter::All => Ok(ChosenFilter::Entry(default_entry(alloc, "all()")?)),
+    }
 }

@@ -1,15 +1,12 @@
 -- What files say of a configuration and its profiles, and of the platforms by which their overrides apply.
-use Rattle.std.specs.Prelude.{◌≡◌, ◌≢◌, ◌⊎◌, List, Option, Some, None, IsSomeAnd, Vec, alloc_error, map, string_bytes, Result, Ok, Err, codes, option_map}
+use Rattle.std.specs.Prelude.{◌≡◌, ◌≢◌, ◌⊎◌, List, Option, Some, None, IsSomeAnd, Vec, alloc_error, map, string_bytes}
 use Rattle.std.specs.{Borrow.Bor, Global.Global, declared.io.Error.Error}
-use Rattle.filterset_entries.specs.{declared.entries.ConfiguredTexts.ConfiguredTexts, Checked.TextRow, Checked.text_row}
-use Rattle.filterset_entries.specs.{Entries.default_row, Profile.row_at}
 use Rattle.filterset_drawing.specs.Columns.{Text}
 use Rattle.filterset_configuration.specs.{Places.ArePlaces, declared.place.Place.Place, declared.places.Places.Places}
 use Rattle.filterset_configuration.specs.PlatformTrees.{setting_of}
 use Rattle.filterset_configuration.specs.declared.platforms.{fault.CfgRefusal.TheVariants.OutOfMemory, settings.Cfg.Cfg}
 use Rattle.filterset_configuration.specs.Lineages.{IsLineageFault, Lineage}
 use Rattle.filterset_configuration.specs.{Profiles.HasProfiles, declared.profiles.Profile.Profile}
-use Rattle.filterset_configuration.specs.declared.defaults.DefaultFilter.TheVariants.{All, Set, Unknown}
 use Rattle.filterset_configuration.specs.PlatformReading as cfgs
 use Rattle.filterset_configuration.specs.declared.fault.LineageFault.TheVariants as lineages
 use Rattle.filterset_sources.specs.Configurations.{IsConfiguration, RefusesConfiguration, configured_rows}
@@ -17,36 +14,26 @@ use Rattle.filterset_sources.specs.declared.configuration.Configuration.{Configu
 use Rattle.filterset_sources.specs.declared.configuration.ConfiguredFilterset.{ConfiguredFilterset}
 use Rattle.filterset_sources.specs.declared.platforms.BuildPlatforms.{BuildPlatforms}
 use Rattle.filterset_sources.specs.declared.refusal.SourceRefusal.TheVariants.{WrongValue}
-use Rattle.nextest_filtering.specs.Groups.{AreGroups}
 use Rattle.filterset_loading.specs.Files.{BySource, IsContent, IsFaultAt, IsFileFault, name_of}
 use Rattle.filterset_loading.specs.declared.fault.{CommandFault.CommandFault, FileFault.FileFault}
 use Rattle.filterset_loading.specs.declared.fault.FileFault.TheVariants.{Refused, WrongCfg}
 use Rattle.filterset_loading.specs.declared.{fault.FileRole.FileRole, profile.KnownPlatforms.KnownPlatforms}
 use Rattle.filterset_loading.specs.declared.profile.{ProfileRequest.ProfileRequest, ProfilesFile.ProfilesFile}
-use Rattle.filterset_loading.specs.declared.{request.WarningRequest.WarningRequest, profile.ChosenFilter.ChosenFilter}
+use Rattle.filterset_loading.specs.declared.{request.WarningRequest.WarningRequest}
 use Rattle.filterset_loading.specs.declared.fault.CommandFault.TheVariants as faults
 use Rattle.filterset_loading.specs.declared.fault.FileRole.TheVariants as roles
-use Rattle.filterset_faults.specs.declared.kind.FiltersetKind.TheVariants.{DefaultFilter}
-use Rattle.filterset_configuration.specs.declared.defaults.DefaultFilter as defaults
-use Rattle.filterset_loading.specs.declared.profile.ChosenFilter.TheVariants as chosens
 
 -- the bytes of the file are this configuration, and its filtersets have these places in it
 abbrev pub IsConfigurationIn : Option Text → Text → Configuration → List (Option Place) → Type 0
 IsConfigurationIn content bytes configuration places = IsContent content bytes × IsConfiguration bytes configuration
     × ArePlaces bytes (configured_rows configuration.filtersets.items) places
 
--- the filtersets of a file with these bytes, and their places
-abbrev pub AreTextsOf : Text → Text → List ConfiguredFilterset → Places → ConfiguredTexts → Type 0
-AreTextsOf name bytes filtersets places texts =
-    (texts.file.now.origin.now ≡ name) × (texts.file.now.text.now ≡ bytes)
-    × (texts.filtersets.now ≡ filtersets) × (texts.places.now ≡ places)
-
 -- the file has these profiles
 abbrev pub AreProfilesIn : Option Text → ProfilesFile → Type 0
 AreProfilesIn content file = let bytes = string_bytes file.text in (configuration : Configuration)
     × IsConfigurationIn content bytes configuration file.places.places.items
     × (file.filtersets.items ≡ configuration.filtersets.items)
-    × AreGroups (map (λ s. string_bytes s) configuration.groups.items) file.groups
+    × (file.groups.items ≡ configuration.groups.items)
     × HasProfiles bytes file.profiles.items
 
 -- what `rustc` sets for a platform, as a file says, if there is one
@@ -119,19 +106,3 @@ profile_at path request = record {
   target_cfg = request.target_cfg;
   host_cfg = request.host_cfg;
 }
-
-abbrev pub given_row : Option (Bor Text) → Option TextRow
-given_row given = option_map (λ t. default_row t.now) given
-
--- the default filter that is given, or else that of the profile, or all tests; or the path that it is not known by
-abbrev pub chosen : ConfiguredTexts → Option TextRow → defaults.DefaultFilter → Result TextRow Text
-chosen texts (Some row) filter = Ok row
-chosen texts None (Set path text) = Ok (row_at texts (string_bytes path) DefaultFilter text.now)
-chosen texts None (Unknown path) = Err (string_bytes path)
-chosen texts None All = Ok (default_row (codes "all()"))
-
--- the default filter that is given, or else that of the profile or all tests; or the path that says why it is not known
-abbrev pub IsChosen : ConfiguredTexts → Option TextRow → defaults.DefaultFilter → ChosenFilter → Type 0
-IsChosen texts given filter (chosens.Entry entry) =
-    (chosen texts given filter ≡ Ok (text_row entry)) × (entry.kind ≡ DefaultFilter)
-IsChosen texts given filter (chosens.Unknown path) = chosen texts given filter ≡ Err (string_bytes path)

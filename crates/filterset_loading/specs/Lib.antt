@@ -1,4 +1,6 @@
-pub mod Files
 pub mod Configurations
-pub mod Workspaces
+pub mod Files
+pub mod Scripts
+pub mod Table
 pub mod Words
+pub mod Workspaces

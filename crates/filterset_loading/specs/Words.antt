@@ -5,21 +5,14 @@ use Rattle.std.specs.{Str.Parse.IsNumeral, Str.Parse.digits_value, Str.Parse.wit
 use Rattle.clap.specs.{Simple.subcommand_rows_of, Walk.rows_of}
 use Rattle.clap.specs.Words.{first_value, matched_of, one_text, raw_values, subcommand_name_of}
 use Rattle.clap.specs.declared.parser.matches.{ArgMatches.ArgMatches, Found.Found}
-use Rattle.filterset_entries.specs.declared.form.Form.{Form, TheVariants.Drawn, TheVariants.Github, TheVariants.Json}
-use Rattle.filterset_entries.specs.declared.question.Question.TheVariants as questions
-use Rattle.filterset_arguments.specs.{Scripts.name_of, declared.shell.Shell.Shell}
-use Rattle.filterset_deciding.specs.declared.question.Question.{Question}
-use Rattle.filterset_deciding.specs.declared.question.Question.TheVariants.{AllAlike, AtLeastOne, AtMostOne, ExactlyOne}
+use Rattle.filterset_drawing.specs.declared.remark.Form.{Form, TheVariants.Drawn, TheVariants.Github, TheVariants.Json}
 use Rattle.filterset_drawing.specs.Columns.{Text}
 use Rattle.filterset_drawing.specs.declared.color.Color.{Color, TheVariants.Always, TheVariants.Never}
-use Rattle.filterset_faults.specs.declared.kind.FiltersetKind.{FiltersetKind}
-use Rattle.filterset_faults.specs.declared.kind.FiltersetKind.TheVariants as kinds
-use Rattle.filterset_json.specs.{Runs.AreLeft, declared.fault.RunFault.TheVariants.Read}
-use Rattle.filterset_sources.specs.declared.list.RunIgnored.{RunIgnored}
-use Rattle.filterset_sources.specs.declared.list.RunIgnored.TheVariants.{All, Default, Only}
+use Rattle.filterset_loading.specs.{Scripts.name_of, declared.shell.Shell.Shell, declared.request.Decision.Decision}
+use Rattle.filterset_loading.specs.declared.request.Decision.TheVariants.{Cover, Disjoint, Partition, Same}
 use Rattle.filterset_loading.specs.Files.{is_input}
 use Rattle.filterset_loading.specs.declared.{fault.CommandFault.CommandFault, request.Asked.Asked}
-use Rattle.filterset_loading.specs.declared.request.Asked.TheVariants.{Explanation, Overrides, Question as Asking, Warnings}
+use Rattle.filterset_loading.specs.declared.request.Asked.TheVariants.{Compare, Explanation, List as Listing, Overrides}
 use Rattle.filterset_loading.specs.declared.fault.CommandFault.TheVariants.{Missing, MixedInput, NotText, Run, TwoInputs, WrongBudget}
 use Rattle.filterset_loading.specs.declared.{profile.ProfileRequest.ProfileRequest, request.Request.Request}
 use Rattle.filterset_loading.specs.declared.request.Request.TheVariants.{Ask, Check, Decide, Format, Show, Simplify}
@@ -28,6 +21,11 @@ use Rattle.filterset_loading.specs.declared.request.Task.TheVariants.{Answer, Co
 use Rattle.filterset_loading.specs.declared.request.Texts.{Texts, TheVariants.Given, TheVariants.StandardInput}
 use Rattle.filterset_loading.specs.declared.request.WarningRequest.{WarningRequest}
 use Rattle.filterset_loading.specs.declared.workspace.WorkspacePaths.{WorkspacePaths}
+use Rattle.filterset_faults.specs.declared.kind.FiltersetKind.{FiltersetKind}
+use Rattle.filterset_faults.specs.declared.kind.FiltersetKind.TheVariants as kinds
+use Rattle.filterset_json.specs.{Runs.AreLeft, declared.fault.RunFault.TheVariants.Read}
+use Rattle.filterset_sources.specs.declared.list.RunIgnored.{RunIgnored}
+use Rattle.filterset_sources.specs.declared.list.RunIgnored.TheVariants.{All, Default, Only}
 
 -- how many of these paths stand for standard input
 abbrev pub inputs_of : List (Option (Bor Text)) → ℕ
@@ -149,14 +147,13 @@ IsProfileAsked found (Some profile) =
 
 -- what `list`, `compare`, `explain` or `overrides` asks, and the form of the answer
 abbrev pub IsQuestionAsked : Text → Found → Form → Asked → Type 0
-IsQuestionAsked name found form (Asking (questions.List filters ignores_default)) =
+IsQuestionAsked name found form (Listing filters ignores_default) =
     (name ≡ codes "list") × IsFormAsked found form
     × (map (λ t. t.now) filters.now ≡ values_of found (codes "filterset"))
     × IsFlagAsked found (codes "ignore") ignores_default
-IsQuestionAsked name found form (Asking (questions.Compare first second has_names)) =
+IsQuestionAsked name found form (Compare first second has_names) =
     (name ≡ codes "compare") × IsDrawnAsked found form × IsTextAsked found (codes "first") first.now
     × IsTextAsked found (codes "second") second.now × IsFlagAsked found (codes "tests") has_names
-IsQuestionAsked name found form (Asking (questions.Overrides filters)) = ⊥
 IsQuestionAsked name found form (Explanation filter binary test) =
     (name ≡ codes "explain") × IsDrawnAsked found form × IsTextAsked found (codes "filterset") filter.now
     × IsTextAsked found (codes "binary") binary.now × IsOptionAsked found (codes "test") test
@@ -164,14 +161,13 @@ IsQuestionAsked name found form (Overrides filters binary test) =
     (name ≡ codes "overrides") × IsDrawnAsked found form
     × (map (λ t. t.now) filters.now ≡ values_of found (codes "filterset"))
     × IsOptionAsked found (codes "binary") binary × IsOptionAsked found (codes "test") test
-IsQuestionAsked name found form (Warnings texts) = ⊥
 
 -- the command that asks this question about filtersets
-abbrev pub decision_name : Question → Text
-decision_name AllAlike = codes "same"
-decision_name AtLeastOne = codes "cover"
-decision_name AtMostOne = codes "disjoint"
-decision_name ExactlyOne = codes "partition"
+abbrev pub decision_name : Decision → Text
+decision_name Same = codes "same"
+decision_name Cover = codes "cover"
+decision_name Disjoint = codes "disjoint"
+decision_name Partition = codes "partition"
 
 -- the text is a decimal number of 64 bits
 abbrev pub IsNumber : Text → Type 0

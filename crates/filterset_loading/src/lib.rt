@@ -1,30 +1,39 @@
-//! What a request names: the words of the command line that ask for it, and the files of the workspace, of the configuration
-//! and of its profiles. Matched words and paths go in; requests, what the files say, and faults for people come out.
+//! What people ask for, and what a request names: the commands and their arguments, as `clap` takes them, and the scripts by
+//! which shells complete them; what matched words ask for; and the files of the workspace, of the configuration and of its
+//! profiles. Words and paths go in; requests, what the files say, and faults for people come out.
 //! For the program `filterset`, and for the crates that answer its requests.
 #![tactic(auto)]
 
+mod commands;
 mod configuration;
+mod engines;
 mod fault;
 mod files;
 mod input;
 mod profile;
+mod quoting;
 mod request;
+mod script;
+mod shell;
+mod table;
 mod words;
 mod workspace;
 
+pub use commands::arguments;
 pub use configuration::{ConfigurationFile, read_configuration_file};
 pub use fault::{CommandFault, FileFault, FileRole};
 pub use files::{FileSource, HostFiles, WithInput};
-pub use filterset_entries::configured_texts;
 pub use input::{INPUT_NAME, name_of, read_input};
 pub use profile::{
-    ChosenFilter, KnownPlatforms, ProfileRequest, ProfilesFile, choose, lineage_of, profiles_in,
-    read_facts, read_profiles_file, request_of,
+    KnownPlatforms, ProfileRequest, ProfilesFile, lineage_of, profiles_in, read_facts,
+    read_profiles_file, request_of,
 };
 pub use request::{
-    Asked, CheckPaths, DecisionRequest, Request, Task, Texts, WarnedTexts, WarningRequest,
+    Asked, CheckPaths, Decision, DecisionRequest, Request, Task, Texts, WarningRequest,
     WorkspaceRequest,
 };
+pub use script::completion_script;
+pub use shell::Shell;
 pub use words::task_of;
 pub use workspace::{
     Workspace, WorkspacePaths, known_packages, platforms_of, read_list, read_workspace,

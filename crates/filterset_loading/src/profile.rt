@@ -1,11 +1,9 @@
 //! What files say of the profiles of a configuration, and of the platforms by which their overrides apply.
-ghost use Rattle.std.specs.Prelude.{◌≡◌, ◌≢◌, ◌⊎◌, IfErr, IfOk, IfSome, alloc_error, map, option_map, string_bytes};
-ghost use Rattle.filterset_entries.specs.Checked.{text_row};
+ghost use Rattle.std.specs.Prelude.{◌≡◌, ◌⊎◌, IfErr, IfOk, map, string_bytes};
 ghost use Rattle.filterset_configuration.specs.{Lineages.IsLineageFault, Lineages.Lineage, Profiles.HasProfiles};
 ghost use Rattle.filterset_sources.specs.Configurations.{IsConfiguration};
 ghost use Rattle.filterset_sources.specs.declared.configuration.Configuration as configurations;
-ghost use Rattle.nextest_filtering.specs.Groups.{IsKnown};
-ghost use Rattle.filterset_loading.specs.Configurations.{AreKnown, AreProfilesIn, AreSettings, IsRefusedProfile, IsSettingsFault, LacksProfile, RefusesFile, IsChosen};
+ghost use Rattle.filterset_loading.specs.Configurations.{AreKnown, AreProfilesIn, AreSettings, IsRefusedProfile, IsSettingsFault, LacksProfile, RefusesFile};
 ghost use Rattle.filterset_loading.specs.Files.{IsFileFault, OrMemory};
 
 use crate::configuration::{ConfigurationFile, read_configuration_file};
@@ -13,14 +11,12 @@ use crate::fault::{CommandFault, FileFault, FileRole};
 use crate::files::{FileSource, read_text};
 use crate::input::name_of;
 use filterset_configuration::{
-    Cfg, CfgRefusal, DefaultFilter, LineageFault, Places, PlatformFacts, Profile, ProfileRefusal,
-    lineage, read_cfg, read_profiles,
+    Cfg, CfgRefusal, LineageFault, Places, PlatformFacts, Profile, ProfileRefusal, lineage,
+    read_cfg, read_profiles,
 };
-use filterset_entries::{ConfiguredTexts, TextEntry, default_entry, entry_at};
 use filterset_sources::{
     BuildPlatforms, Configuration, ConfiguredFilterset, SourceRefusal, WrongValue,
 };
-use nextest_filtering::{FiltersetKind, KnownGroups};
 use std::alloc::{AllocError, Global};
 
 /// The profile that a command uses, by the paths of the files that say what it is.
@@ -35,13 +31,13 @@ pub struct ProfileRequest<'w> {
     pub host_cfg: Option<&'w str>,
 }
 
-/// The profiles of a configuration, with its text, its filtersets and their places in that, and its groups.
+/// The profiles of a configuration, with its text, its filtersets and their places in that, and the names of its groups.
 #[derive(Drop)]
 pub struct ProfilesFile {
     pub text: String,
     pub filtersets: Vec<ConfiguredFilterset>,
     pub places: Places,
-    pub groups: KnownGroups,
+    pub groups: Vec<String>,
     pub profiles: Vec<Profile>,
 }
 
@@ -76,7 +72,6 @@ pub fn read_profiles_file<F: FileSource>(
     path: &str,
 ) -> Result<ProfilesFile, CommandFault>
     ensures read { IfOk result (AreProfilesIn (F.content files.now path.now)) }
-    ensures known { IfOk result (λ file. IsKnown file.groups) }
     ensures refused { IfErr result (OrMemory (IsFileFault (F.content files.now) (F.fails files.now)
         FileRole.Configuration RefusesFile path.now)) }
 {
@@ -88,10 +83,10 @@ pub fn read_profiles_file<F: FileSource>(
     let profiles = profiles_in(alloc, path, text.as_str())?;
     let Configuration { filtersets, groups } = configuration;
     Ok(ProfilesFile {
-        groups: KnownGroups::of(alloc, groups)?,
         text,
         filtersets,
         places,
+        groups,
         profiles,
     })
 }
@@ -187,36 +182,5 @@ pub fn request_of<'n>(configuration: &'n str, name: &'n str) -> ProfileRequest<'
         name,
         target_cfg: None,
         host_cfg: None,
-    }
-}
-
-/// What is known of a default filter.
-#[derive(Drop)]
-pub enum ChosenFilter<'t> {
-    Entry(TextEntry<'t>),
-    /// It depends on the platform of the override at this path.
-    Unknown(String),
-}
-
-/// Makes the entry of the default filter that is given, or else of the profile's.
-pub fn choose<'t>(
-    alloc: Global,
-    texts: ConfiguredTexts<'t>,
-    given: Option<TextEntry<'t>>,
-    filter: DefaultFilter<'t>,
-) -> Result<ChosenFilter<'t>, AllocError>
-    requires { IfSome given (λ entry. entry.kind ≡ FiltersetKind.DefaultFilter) }
-    ensures { IfOk result (IsChosen texts.entry (option_map text_row given.entry) filter.entry) }
-{
-    if let Some(entry) = given {
-        return Ok(ChosenFilter::Entry(entry));
-    }
-    match filter {
-        DefaultFilter::Set { path, text } => {
-            let entry = entry_at(texts, path, FiltersetKind::DefaultFilter, text);
-            Ok(ChosenFilter::Entry(entry))
-        }
-        DefaultFilter::Unknown { path } => Ok(ChosenFilter::Unknown(path)),
-        DefaultFilter::All => Ok(ChosenFilter::Entry(default_entry(alloc, "all()")?)),
     }
 }

@@ -5,12 +5,11 @@ ghost use Rattle.filterset_loading.specs.Words.{input_count, inputs_of, profile_
 
 use crate::input::is_input;
 use crate::profile::ProfileRequest;
+use crate::shell::Shell;
 use crate::workspace::WorkspacePaths;
-use filterset_arguments::Shell;
-use filterset_deciding::Question as Decision;
-use filterset_entries::{Form, Question, TextEntry, WarningEnd};
+use filterset_drawing::Form;
+use filterset_faults::FiltersetKind;
 use filterset_sources::RunIgnored;
-use nextest_filtering::FiltersetKind;
 
 /// The filtersets to check, to format or to simplify.
 #[derive(Clone, Copy)]
@@ -65,7 +64,17 @@ pub struct CheckPaths<'w> {
 /// What a workspace is asked.
 #[derive(Clone, Copy)]
 pub enum Asked<'w> {
-    Question(Question<'w>),
+    /// Which tests a runner runs, given these filtersets, and the default filter unless that is ignored.
+    List {
+        filters: &'w [&'w str],
+        ignores_default: bool,
+    },
+    /// How two filtersets differ, with the names of tests and the ids of skipped binaries or without.
+    Compare {
+        first: &'w str,
+        second: &'w str,
+        has_names: bool,
+    },
     /// Why a filterset picks a binary or a test.
     Explanation {
         filter: &'w str,
@@ -83,15 +92,6 @@ pub enum Asked<'w> {
         /// The name of a test of the binary, if the overrides are explained for that.
         test: Option<&'w str>,
     },
-    /// What the tests say of texts that are checked.
-    Warnings(WarnedTexts<'w>),
-}
-
-/// The texts that `check` warns of.
-#[derive(Clone, Copy)]
-pub struct WarnedTexts<'w> {
-    pub entries: &'w [TextEntry<'w>],
-    pub end: WarningEnd,
 }
 
 /// What is asked of the workspace that files describe.
@@ -103,6 +103,19 @@ pub struct WorkspaceRequest<'w> {
     pub default_filter: Option<&'w str>,
     pub profile: Option<ProfileRequest<'w>>,
     pub asked: Asked<'w>,
+}
+
+/// What is asked of filtersets and every possible test, named as the command that asks it.
+#[derive(Clone, Copy)]
+pub enum Decision {
+    /// Whether all of them pick the test, or none does.
+    Same,
+    /// Whether at least one of them picks the test.
+    Cover,
+    /// Whether at most one of them picks the test.
+    Disjoint,
+    /// Whether exactly one of them picks the test.
+    Partition,
 }
 
 /// A question about filtersets and every possible test.

@@ -3,22 +3,21 @@ ghost use Rattle.std.specs.Prelude.{◌≡◌, ◌⊎◌, IfErr, IfOk, codes, ma
 ghost use Rattle.clap.specs.{Words.found_of, declared.parser.matches.Found.Found};
 ghost use Rattle.filterset_drawing.specs.Columns.{Text};
 ghost use Rattle.filterset_loading.specs.Words.{input_count, ArePathsAsked, AreTextsAsked, AreWarningsAsked, IsAsked, IsAskedBy, IsBudgetAsked, IsColorAsked, IsFaultOf, IsFormAsked, IsGivenFault, IsKindAsked, IsProfileAsked, IsQuestionAsked, IsRunIgnoredAsked, IsTask, IsTextAsked, IsUnasked, IsWordsFault, IsWorkspaceAsked, NamesNoShell, decision_name, given_texts, has_input};
-ghost use Rattle.filterset_arguments.specs.Scripts.{name_of};
+ghost use Rattle.filterset_loading.specs.Scripts.{name_of};
 
 use crate::fault::CommandFault;
 use crate::input::is_input;
 use crate::profile::ProfileRequest;
 use crate::request::{
-    Asked, CheckPaths, DecisionRequest, Request, Task, Texts, WarningRequest, WorkspaceRequest,
+    Asked, CheckPaths, Decision, DecisionRequest, Request, Task, Texts, WarningRequest,
+    WorkspaceRequest,
 };
+use crate::shell::Shell;
 use crate::workspace::WorkspacePaths;
 use clap::ArgMatches;
-use filterset_arguments::Shell;
-use filterset_deciding::Question as Decision;
-use filterset_drawing::Color;
-use filterset_entries::{Form, Question};
+use filterset_drawing::{Color, Form};
+use filterset_faults::FiltersetKind;
 use filterset_sources::RunIgnored;
-use nextest_filtering::FiltersetKind;
 
 /// Returns what matched words ask for.
 pub fn task_of<'m>(matches: &'m ArgMatches<'_>) -> Result<Task<'m>, CommandFault>
@@ -80,10 +79,10 @@ fn request_named<'m>(name: &str, own: &'m ArgMatches<'_>) -> Result<Request<'m>,
         "compare" => compare_of(own),
         "explain" => explain_of(own),
         "overrides" => overrides_of(own),
-        "same" => decision_of(own, Decision::AllAlike),
-        "cover" => decision_of(own, Decision::AtLeastOne),
-        "disjoint" => decision_of(own, Decision::AtMostOne),
-        "partition" => decision_of(own, Decision::ExactlyOne),
+        "same" => decision_of(own, Decision::Same),
+        "cover" => decision_of(own, Decision::Cover),
+        "disjoint" => decision_of(own, Decision::Disjoint),
+        "partition" => decision_of(own, Decision::Partition),
         _ => Err(CommandFault::Missing("COMMAND")),
     }
 }
@@ -132,11 +131,11 @@ fn list_of<'m>(matches: &'m ArgMatches<'_>) -> Result<Request<'m>, CommandFault>
     ensures asked { IfOk result (IsAskedBy (codes "list") (found_of matches.now)) }
     ensures refused { IfErr result (IsFaultOf (found_of matches.now)) }
 {
-    let question = Question::List {
+    let asked = Asked::List {
         filters: matches.get_strs("filterset").unwrap_or(&[]),
         ignores_default: matches.get_flag("ignore"),
     };
-    ask_of(matches, form_of(matches), Asked::Question(question))
+    ask_of(matches, form_of(matches), asked)
 }
 
 /// Returns what `compare` asks for.
@@ -144,13 +143,12 @@ fn compare_of<'m>(matches: &'m ArgMatches<'_>) -> Result<Request<'m>, CommandFau
     ensures asked { IfOk result (IsAskedBy (codes "compare") (found_of matches.now)) }
     ensures refused { IfErr result (IsFaultOf (found_of matches.now)) }
 {
-    let question = Question::Compare {
+    let asked = Asked::Compare {
         first: text_of(matches, "first")?,
         second: text_of(matches, "second")?,
         has_names: matches.get_flag("tests"),
     };
-    let form = Form::Drawn(color_of(matches));
-    ask_of(matches, form, Asked::Question(question))
+    ask_of(matches, Form::Drawn(color_of(matches)), asked)
 }
 
 /// Returns a request that asks this of the workspace of the arguments.

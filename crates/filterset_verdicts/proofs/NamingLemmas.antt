@@ -3,9 +3,9 @@ use Rattle.std.proofs.Common.{◌≡◌, ◌∙◌, ◌<◌, ℕ, List, None, Op
 use Rattle.std.specs.{Prelude.IsSomeAnd, Prelude.MatchOption, List.Contains}
 use Rattle.std.proofs.lemmas.List.{get_or-map, length-map}
 use Rattle.filterset_entries.specs.{Checked.TextRow, declared.entries.ConfiguredTexts.ConfiguredTexts}
+use Rattle.filterset_entries.specs.Profile.{IsChosen, chosen}
+use Rattle.filterset_entries.specs.declared.profile.ChosenFilter.{ChosenFilter, TheVariants.Entry, TheVariants.Unknown}
 use Rattle.filterset_configuration.specs.declared.defaults.DefaultFilter.{DefaultFilter}
-use Rattle.filterset_loading.specs.Configurations.{IsChosen, chosen}
-use Rattle.filterset_loading.specs.declared.profile.ChosenFilter.{ChosenFilter, TheVariants.Entry, TheVariants.Unknown}
 use Rattle.filterset_verdicts.specs.Deciding.{IsDefaultKind, outcome_of}
 
 pub chosen_outcome : (texts : ConfiguredTexts) (given : Option TextRow) (filter : DefaultFilter) (found : ChosenFilter)

@@ -3,9 +3,10 @@ use Rattle.std.specs.Prelude.{◌≡◌, ◌≢◌, ◌⊎◌, ◌++◌, List, [
 use Rattle.std.specs.{Borrow.Bor, List.AllZip, declared.io.Error.Error}
 use Rattle.serde_json.specs.Data.{Data}
 use Rattle.filterset_entries.specs.{Checked.TextRow, Checked.text_row, Endings.AnswersUnknown}
-use Rattle.filterset_entries.specs.Entries.{default_row, numbered_rows, test_row}
+use Rattle.filterset_entries.specs.Entries.{default_row, numbered_rows, test_row, given_row, AreTextsOf}
 use Rattle.filterset_entries.specs.declared.{entries.ConfiguredTexts.ConfiguredTexts, setting.Setting.Setting}
-use Rattle.filterset_entries.specs.declared.text.Ending.{Ending}
+use Rattle.filterset_entries.specs.{declared.text.Ending.Ending, Profile.chosen}
+use Rattle.filterset_entries.specs.declared.profile.ChosenFilter.{ChosenFilter}
 use Rattle.filterset_drawing.specs.Columns.{Text}
 use Rattle.filterset_faults.specs.declared.kind.FiltersetKind.TheVariants as kinds
 use Rattle.filterset_graph.specs.declared.package.PackageMetadata.{PackageMetadata}
@@ -15,19 +16,23 @@ use Rattle.filterset_configuration.specs.declared.{defaults.DefaultFilter.Defaul
 use Rattle.filterset_configuration.specs.declared.ranking.RankedOverride.{RankedOverride}
 use Rattle.filterset_sources.specs.{Metadata.RefusesMetadata, Platforms.ArePlatforms}
 use Rattle.filterset_sources.specs.declared.{list.Suite.Suite, platforms.BuildPlatforms.BuildPlatforms}
-use Rattle.nextest_filtering.specs.{Groups.IsGlobalOnly, declared.compile.context.KnownGroups.KnownGroups}
+use Rattle.nextest_filtering.specs.Groups.{AreGroups, IsGlobalOnly}
+use Rattle.nextest_filtering.specs.declared.compile.context.KnownGroups.{KnownGroups}
 use Rattle.filterset_verdicts.specs.Verdicts.{AnswersQuestion, question_rows}
 use Rattle.filterset_verdicts.specs.declared.answering.TextQuestion.{TextQuestion}
 use Rattle.filterset_verdicts.specs.declared.naming.ResolvedEntries.{ResolvedEntries}
-use Rattle.filterset_loading.specs.Configurations.{chosen, given_row, AreKnown, AreProfilesIn, AreTextsOf, IsSettingsFault, LacksName, LacksProfile, RefusesFile}
+use Rattle.filterset_loading.specs.Configurations.{AreKnown, AreProfilesIn, IsSettingsFault, LacksName, LacksProfile, RefusesFile}
 use Rattle.filterset_loading.specs.Workspaces.{KnownPackages, IsListIn, IsPlatformsFault, RefusesList, RefusesValue}
 use Rattle.filterset_loading.specs.Files.{IsFileFault, name_of}
 use Rattle.filterset_loading.specs.declared.{request.DecisionRequest.DecisionRequest, fault.CommandFault.CommandFault}
 use Rattle.filterset_loading.specs.declared.profile.{KnownPlatforms.KnownPlatforms, ProfileRequest.ProfileRequest}
-use Rattle.filterset_loading.specs.declared.profile.{ProfilesFile.ProfilesFile, ChosenFilter.ChosenFilter}
+use Rattle.filterset_loading.specs.declared.{profile.ProfilesFile.ProfilesFile, request.Decision.Decision}
+use Rattle.filterset_loading.specs.declared.request.Decision.TheVariants.{Cover, Disjoint, Partition, Same}
+use Rattle.filterset_deciding.specs.declared.question.Question.{Question}
+use Rattle.filterset_deciding.specs.declared.question.Question.TheVariants.{AllAlike, AtLeastOne, AtMostOne, ExactlyOne}
 use Rattle.filterset_loading.specs.declared.fault.FileRole.TheVariants as roles
 use Rattle.filterset_verdicts.specs.declared.naming.ResolvedEntries.TheVariants as entries
-use Rattle.filterset_loading.specs.declared.profile.ChosenFilter.TheVariants as chosens
+use Rattle.filterset_entries.specs.declared.profile.ChosenFilter.TheVariants as chosens
 
 -- ---- the texts of a request
 
@@ -43,13 +48,20 @@ abbrev pub request_rows : DecisionRequest → List TextRow
 request_rows request = test_row (codes "--within") (within_of request.within request.metadata)
     ∷ numbered_rows (codes "argument") kinds.Test (map (λ t. t.now) request.texts.now)
 
+-- the question that a command asks
+abbrev pub question_of : Decision → Question
+question_of Same = AllAlike
+question_of Cover = AtLeastOne
+question_of Disjoint = AtMostOne
+question_of Partition = ExactlyOne
+
 -- the answer to the question of the request about these rows, over these packages, test binaries and groups, under this
 -- default filter
 abbrev pub AnswersRows : DecisionRequest → List PackageMetadata → List Suite → KnownGroups → TextRow → List TextRow → Ending
     → Text → Type 0
 AnswersRows request packages suites groups default rows ending text = (setting : Setting) × (asked : TextQuestion)
     × (setting.graph.now ≡ packages) × (setting.groups.now ≡ groups) × (text_row setting.default.now ≡ default)
-    × (setting.overrides.now ≡ []) × (setting.profiles.now ≡ []) × ((asked.question ≡ request.question)
+    × (setting.overrides.now ≡ []) × (setting.profiles.now ≡ []) × ((asked.question ≡ question_of request.question)
     × (question_rows asked ≡ rows) × (asked.suites.now ≡ suites) × (asked.budget ≡ request.budget))
     × AnswersQuestion request.form setting asked ending text
 
@@ -101,13 +113,14 @@ nowhere = record { host = None; target = None }
 abbrev pub AnswersProfiles : (Text → Option Text) → DecisionRequest → List PackageMetadata → List Suite
     → ProfileRequest → BuildPlatforms → Ending → Text → Type 0
 AnswersProfiles content request packages suites profile built ending text =
-    (file : ProfilesFile) × (named : Naming)
+    (file : ProfilesFile) × (groups : KnownGroups) × (named : Naming)
     × AreProfilesIn (content profile.configuration.now) file
+    × AreGroups (map (λ s. string_bytes s) file.groups.items) groups
     × (named.profiles ≡ file.profiles.items)
     × AreKnown content profile built named.known
     × AreTextsOf (name_of profile.configuration.now) (string_bytes file.text) file.filtersets.items file.places
     named.texts
-    × AnswersNamed request packages suites file.groups named profile.name.now ending text
+    × AnswersNamed request packages suites groups named profile.name.now ending text
 
 -- ---- what is answered
 

@@ -6,9 +6,9 @@ use Rattle.filterset_deciding.specs.declared.deciding.Verdict.{Verdict}
 use Rattle.filterset_deciding.specs.declared.demand.{Demand.Demand, Doubt.Doubt, TestField.TestField}
 use Rattle.filterset_deciding.specs.declared.{question.Question.Question, witness.PossibleTest.PossibleTest}
 use Rattle.filterset_deciding.specs.declared.deciding.Verdict.TheVariants as verdicts
+use Rattle.filterset_deciding.specs.declared.question.Question.TheVariants.{AllAlike, AtLeastOne, AtMostOne, ExactlyOne}
 use Rattle.filterset_drawing.specs.Columns.{Text}
 use Rattle.filterset_graph.specs.{Platforms.platform_text, declared.package.PackageMetadata.PackageMetadata}
-use Rattle.filterset_loading.specs.Words.{decision_name}
 use Rattle.filterset_verdicts.specs.VerdictText.{IsPackageText, demand_text}
 
 -- the numbers of the filtersets that pick the test, where the first has this number
@@ -30,12 +30,19 @@ test_data name test = object (member (codes "binary") (string (string_bytes test
 abbrev pub demand_item : TestField → Demand → Data
 demand_item field demand = string (demand_text field demand)
 
+-- what the question is called
+abbrev pub question_word : Question → Text
+question_word AllAlike = codes "same"
+question_word AtLeastOne = codes "cover"
+question_word AtMostOne = codes "disjoint"
+question_word ExactlyOne = codes "partition"
+
 -- the answer, whether the budget was spent, what the answer depends on, whether the test is one of the list, which filtersets
 -- pick it, the question, and the test
 abbrev pub verdict_data : Text → Bool → Data → Data → Data → Question → Data → Data
 verdict_data answer is_spent doubt listed picks question test = object (member (codes "answer") (string answer)
     (member (codes "budget_spent") (boolean is_spent) (member (codes "hangs_on") doubt (member (codes "listed") listed
-    (member (codes "picked_by") picks (member (codes "question") (string (decision_name question))
+    (member (codes "picked_by") picks (member (codes "question") (string (question_word question))
     (member (codes "test") test no_members)))))))
 
 -- what is written about a verdict, whose test is one of the list or not

@@ -1,9 +1,9 @@
 -- What questions about filtersets and every possible test are answered.
 use Rattle.std.specs.Prelude.{◌≡◌, ◌↔◌, ◌⊎◌, ◌<◌, ◌+◌, ◌*◌, ◌^◌, ℕ, [], ◌∷◌, true, false, Contains, List, MatchOption, Option, length, map}
 use Rattle.std.specs.{Borrow.Bor, List.AllZip}
-use Rattle.filterset_entries.specs.Checked.{TextRow, text_row}
-use Rattle.filterset_entries.specs.declared.{form.Form.Form, setting.Setting.Setting}
+use Rattle.filterset_entries.specs.{Checked.TextRow, Checked.text_row, declared.setting.Setting.Setting}
 use Rattle.filterset_entries.specs.declared.text.Ending.{Ending, TheVariants.Differing}
+use Rattle.filterset_drawing.specs.{declared.remark.Form.Form, Columns.Text}
 use Rattle.filterset_answers.specs.Compiled.{AnswersTexts, Telling}
 use Rattle.filterset_deciding.specs.Deciding.{IsAlwaysMet, IsUnmetAt, leaves_asked, steps_asked}
 use Rattle.filterset_deciding.specs.Demands.{HasUncompared, IsDoubtAbout}
@@ -11,7 +11,6 @@ use Rattle.filterset_deciding.specs.Listed.{IsFirstUnmet, IsMetByAll}
 use Rattle.filterset_deciding.specs.{Texts.AreComparisons, Texts.HasUnsearched, declared.deciding.Verdict.Verdict}
 use Rattle.filterset_deciding.specs.declared.{question.Question.Question, witness.Witness.Witness}
 use Rattle.filterset_deciding.specs.declared.deciding.Verdict.TheVariants as verdicts
-use Rattle.filterset_drawing.specs.Columns.{Text}
 use Rattle.filterset_expression.specs.Meaning.{IsCompiled}
 use Rattle.filterset_expression.specs.declared.{expression.CompiledExpr.CompiledExpr, query.TestQuery.TestQuery}
 use Rattle.nextest_filtering.specs.{Groups.IsGroupName, declared.compile.context.KnownGroups.KnownGroups}

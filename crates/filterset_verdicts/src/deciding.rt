@@ -1,27 +1,27 @@
 //! The commands `same`, `cover`, `disjoint` and `partition`: questions about filtersets and every possible test.
 ghost use Rattle.std.specs.Prelude.{◌≡◌, ◌<◌, [], IfErr, IfOk, IfSome, IsSomeAnd, codes, length, map, string_bytes, unwrap_or};
 ghost use Rattle.serde_json.specs.View.{view};
-ghost use Rattle.filterset_entries.specs.{Checked.text_row, Entries.default_row};
+ghost use Rattle.filterset_entries.specs.{Checked.text_row, Entries.default_row, Entries.given_row};
 ghost use Rattle.filterset_faults.specs.declared.kind.FiltersetKind.TheVariants as kinds;
 ghost use Rattle.filterset_sources.specs.Platforms.{ArePlatforms};
 ghost use Rattle.nextest_filtering.specs.Groups.{IsGlobalOnly, IsKnown};
 ghost use Rattle.nextest_filtering.specs.declared.compile.context.KnownGroups as contexts;
-ghost use Rattle.filterset_loading.specs.{Configurations.given_row, Files.OrMemory, Workspaces.IsPlatformsFault};
-ghost use Rattle.filterset_verdicts.specs.Deciding.{AnswersDecision, AnswersKnown, AnswersListed, AnswersNamed, AnswersProfiles, AnswersRows, IsDecisionFault, IsDefaultKind, IsDefaultRow, IsListedFault, IsNamedFault, LacksNamed, naming_of, nowhere, outcome_of, request_rows, within_of};
+ghost use Rattle.filterset_loading.specs.{Files.OrMemory, Workspaces.IsPlatformsFault};
+ghost use Rattle.filterset_verdicts.specs.Deciding.{AnswersDecision, AnswersKnown, AnswersListed, AnswersNamed, AnswersProfiles, AnswersRows, IsDecisionFault, IsDefaultKind, IsDefaultRow, IsListedFault, IsNamedFault, LacksNamed, naming_of, nowhere, outcome_of, question_of, request_rows, within_of};
 
 use crate::answering::{TextQuestion, answer_texts};
 use crate::naming::{ResolvedEntries, filter_of, resolve, resolve_entries};
 use filterset_configuration::Profile;
+use filterset_deciding::Question;
 use filterset_drawing::Source;
 use filterset_entries::{
-    Answer, ConfiguredTexts, Setting, TextEntry, answer_unknown, default_entry, entry_of,
-    given_entries,
+    Answer, ChosenFilter, ConfiguredTexts, Setting, TextEntry, answer_unknown, configured_texts,
+    default_entry, entry_of, given_entries,
 };
 use filterset_graph::PackageGraph;
 use filterset_loading::{
-    ChosenFilter, CommandFault, DecisionRequest, FileSource, KnownPlatforms, ProfileRequest,
-    ProfilesFile, configured_texts, known_packages, name_of, platforms_of, read_facts, read_list,
-    read_profiles_file,
+    CommandFault, Decision, DecisionRequest, FileSource, KnownPlatforms, ProfileRequest,
+    ProfilesFile, known_packages, name_of, platforms_of, read_facts, read_list, read_profiles_file,
 };
 use filterset_sources::{BuildPlatforms, Suite};
 use nextest_filtering::{FiltersetKind, KnownGroups};
@@ -60,6 +60,18 @@ fn request_entries<'w>(
     Ok(entries)
 }
 
+/// Returns the question that a command asks.
+fn question_of(decision: Decision) -> Question
+    ensures { result ≡ question_of decision }
+{
+    match decision {
+        Decision::Same => Question::AllAlike,
+        Decision::Cover => Question::AtLeastOne,
+        Decision::Disjoint => Question::AtMostOne,
+        Decision::Partition => Question::ExactlyOne,
+    }
+}
+
 /// Answers the question of a request about these entries, for this workspace and these groups and under this default filter.
 fn decide_entries(
     alloc: Global,
@@ -83,7 +95,7 @@ fn decide_entries(
         profiles: &[],
     };
     let asked = TextQuestion {
-        question: request.question,
+        question: question_of(request.question),
         entries,
         suites: workspace.suites,
         budget: request.budget,
@@ -181,6 +193,7 @@ fn decide_configured<F: FileSource>(
         profiles,
     } = read_profiles_file(alloc, files, profile.configuration)?;
     let known = read_facts(alloc, files, profile, built)?;
+    let groups = KnownGroups::of(alloc, groups)?;
     let source = Source::new(alloc, name_of(profile.configuration), text.as_str())?;
     let texts = configured_texts(&source, filtersets.as_slice(), &places);
     let profiles = profiles.as_slice();

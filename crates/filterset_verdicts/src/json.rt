@@ -1,8 +1,7 @@
 //! Verdicts as JSON.
 ghost use Rattle.std.specs.Prelude.{◌≡◌, ◌++◌, IfOk, codes, false, map, string_bytes};
 ghost use Rattle.serde_json.specs.{Data.Data, Data.null, View.view, Written.compact_text};
-ghost use Rattle.filterset_loading.specs.Words.{decision_name};
-ghost use Rattle.filterset_verdicts.specs.VerdictJson.{IsVerdictData, demand_item, number_item, picked_numbers, test_data};
+ghost use Rattle.filterset_verdicts.specs.VerdictJson.{IsVerdictData, demand_item, number_item, picked_numbers, question_word, test_data};
 
 use crate::text::{demand_text, package_text, platform_word};
 use filterset_deciding::{Demand, PossibleTest, Question, TestField, Verdict};
@@ -12,7 +11,7 @@ use std::alloc::{AllocError, Global};
 
 /// Returns what a question is called.
 fn question_word(question: Question) -> &'static str
-    ensures { result.now ≡ decision_name question }
+    ensures { result.now ≡ question_word question }
 {
     match question {
         Question::AllAlike => "same",

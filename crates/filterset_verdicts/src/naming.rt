@@ -7,10 +7,8 @@ ghost use Rattle.filterset_verdicts.specs.Deciding.{AreResolved, IsDefaultKind, 
 ghost use Rattle.filterset_loading.specs.{Configurations.LacksName, Files.OrMemory};
 
 use filterset_configuration::{Profile, default_filter, rank_overrides};
-use filterset_entries::{ConfiguredTexts, TextEntry};
-use filterset_loading::{
-    ChosenFilter, CommandFault, KnownPlatforms, choose, lineage_of, request_of,
-};
+use filterset_entries::{ChosenFilter, ConfiguredTexts, TextEntry, choose};
+use filterset_loading::{CommandFault, KnownPlatforms, lineage_of, request_of};
 use std::alloc::{AllocError, Global};
 
 /// What texts stand for.

@@ -15,9 +15,11 @@ returns-clause-answered g c =
     let told = rw c.as_slice-2.ensures.value at c.ask_profile.ensures.answered in
     IfOk-weaker c.ask_profile.result _ _ (λ answer answers. (
       c.in_ok-text.field-0,
+      c.in_ok-groups.groups,
       c.in_ok-known.known,
       c.configured_texts-texts.result,
       c.in_ok-text.ensures.read,
+      c.in_ok-groups.ensures.groups,
       c.in_ok-known.ensures.read,
       (
         ap origin_of parts.file ∙ c.in_ok-source.ensures.origin ∙ c.name_of.ensures,

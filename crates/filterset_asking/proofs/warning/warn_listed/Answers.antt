@@ -1,8 +1,7 @@
 use Rattle.std.proofs.{Common.◌⊎◌, Common.inl, Common.inr, lemmas.Result.IfErr-weaker, lemmas.Result.IfOk-weaker}
 use Rattle.serde_json.specs.View.{view}
-use Rattle.filterset_asking.specs.{Asking.LacksIn, Warned.IsListedFault, Warned.IsProfileUnused}
-use Rattle.filterset_loading.specs.{Files.name_of, Configurations.profile_at, declared.request.Asked.Asked}
-use Rattle.filterset_loading.specs.declared.{request.Asked.TheVariants.Warnings, fault.CommandFault.CommandFault}
+use Rattle.filterset_asking.specs.{Warned.IsListedFault, Warned.IsProfileUnused}
+use Rattle.filterset_loading.specs.{Configurations.profile_at, declared.fault.CommandFault.CommandFault}
 use Rattle.filterset_loading.proofs.FaultLemmas.{OrMemory-weaker}
 use Rattle.filterset_asking.proofs.warning.warn_listed.Goals as goal
 
@@ -20,12 +19,9 @@ returns-in-None-clause-refused g c =
     let fails = g.F.FileSource.fails c.args.files.now in
     let request = c.args.request.now in
     let texts = c.args.texts.now in
-    let suites = c.in_ok-list.list.suites.items in
-    let asked : Asked = Warnings (record { entries = texts.entries; end = texts.end }) in
-    let told = rw c.as_slice.ensures.value at c.ask_plainly.ensures.missing in
-    IfErr-weaker c.ask_plainly.result _ _ (OrMemory-weaker (LacksIn (name_of request.paths.list.now) asked suites)
+    IfErr-weaker c.ask_plainly.result _ _ (OrMemory-weaker (λ (fault : CommandFault). ⊥)
     (IsListedFault content fails texts.graph.now texts.path texts.configured.file.now.text.now request)
-    (λ fault lacks. absurd lacks.2)) told
+    (λ fault lacks. absurd lacks)) c.ask_plainly.ensures.missing
 
 pub returns-clause-answered : goal.returns-clause-answered
 returns-clause-answered g c =
@@ -38,14 +34,12 @@ returns-clause-refused g c =
     let fails = g.F.FileSource.fails c.args.files.now in
     let request = c.args.request.now in
     let texts = c.args.texts.now in
-    let asked : Asked = Warnings (record { entries = texts.entries; end = texts.end }) in
-    let Lacking : CommandFault → Type 0 = LacksIn (name_of request.paths.list.now) asked c.in_ok-list.list.suites.items in
     let Unused : CommandFault → Type 0 =
     IsProfileUnused content fails texts.configured.file.now.text.now request.paths.list.now (view c.in_ok-list.value) (profile_at c.in-Some.path request) in
     let Wrong : CommandFault → Type 0 = IsListedFault content fails texts.graph.now texts.path texts.configured.file.now.text.now request in
     let told = rw (c.as_slice.ensures.value, c.profile_at-profile.ensures) at c.warn_configured.ensures.refused in
-    IfErr-weaker c.warn_configured.result _ _ (OrMemory-weaker (λ (fault : CommandFault). Lacking fault ⊎ Unused fault) Wrong
+    IfErr-weaker c.warn_configured.result _ _ (OrMemory-weaker (λ (fault : CommandFault). ⊥ ⊎ Unused fault) Wrong
     (λ fault either. elim either as (λ _. Wrong fault) [
-      | inl lacks ↦ absurd lacks.2
+      | inl lacks ↦ absurd lacks
       | inr unused ↦ inr (view c.in_ok-list.value, c.in_ok-list.list.suites.items, c.in_ok-list.ensures.read, rw c.in-Some.is unused)
     ])) told

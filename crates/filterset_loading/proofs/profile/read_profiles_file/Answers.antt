@@ -16,6 +16,6 @@ returns-clause-read g c =
       c.in_ok-text.field-0.configuration,
       c.in_ok-text.ensures.read,
       refl,
-      c.in_ok-of.ensures.groups,
+      refl,
       subst AreHere c.as_str.ensures.value c.in_ok-profiles.ensures.read,
     )

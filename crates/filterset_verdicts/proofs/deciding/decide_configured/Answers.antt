@@ -18,12 +18,14 @@ returns-clause-answered g c =
     let origin_of : Source → Text = λ s. s.origin.now in
     let text_of : Source → Text = λ s. s.text.now in
     let texts = c.configured_texts-texts.result in
-    let AnswersOver : List Profile → Answer → Type 0 = λ profiles answer. AnswersNamed c.args.request.now c.args.workspace.graph.now c.args.workspace.suites.now file.groups (naming_of profiles known texts) c.args.profile.now.name.now answer.ending (string_bytes answer.text) in
+    let AnswersOver : List Profile → Answer → Type 0 = λ profiles answer. AnswersNamed c.args.request.now c.args.workspace.graph.now c.args.workspace.suites.now c.in_ok-groups.groups (naming_of profiles known texts) c.args.profile.now.name.now answer.ending (string_bytes answer.text) in
     let told = subst (λ profiles. IfOk c.decide_named.result (AnswersOver profiles)) c.as_slice-profiles.ensures.value c.decide_named.ensures.answered in
     IfOk-weaker c.decide_named.result (AnswersOver file.profiles.items) _ (λ answer answers. (
       file,
+      c.in_ok-groups.groups,
       naming_of file.profiles.items known texts,
       c.in_ok-text.ensures.read,
+      c.in_ok-groups.ensures.groups,
       refl,
       c.in_ok-known.ensures.read,
       (

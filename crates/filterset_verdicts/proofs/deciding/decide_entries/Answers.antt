@@ -1,11 +1,11 @@
 use Rattle.std.proofs.{Common.refl, lemmas.Result.IfOk-weaker}
-use Rattle.filterset_verdicts.specs.declared.answering.TextQuestion.{TextQuestion}
+use Rattle.filterset_verdicts.specs.{Deciding.question_of, declared.answering.TextQuestion.TextQuestion}
 use Rattle.filterset_verdicts.proofs.deciding.decide_entries.Goals as goal
 
 pub returns : goal.returns
 returns c =
     let request = c.args.request.now in
-    let asked : TextQuestion = record { question = request.question; entries = c.args.entries; suites = c.args.workspace.suites; budget = request.budget } in
+    let asked : TextQuestion = record { question = question_of request.question; entries = c.args.entries; suites = c.args.workspace.suites; budget = request.budget } in
     IfOk-weaker c.answer_texts.result _ _ (λ answer answers. (
       _,
       asked,
@@ -16,4 +16,4 @@ returns c =
       refl,
       (refl, refl, refl, refl),
       answers,
-    )) c.answer_texts.ensures
+    )) (rw c.question_of.ensures at c.answer_texts.ensures)

@@ -1,6 +1,6 @@
 //! Texts between apostrophes, which all three shells read alike.
 ghost use Rattle.std.specs.Prelude.{◌≡◌, ◌++◌, OnOk, string_bytes};
-ghost use Rattle.filterset_arguments.specs.Scripts.{quoted, quoted_char};
+ghost use Rattle.filterset_loading.specs.Scripts.{quoted, quoted_char};
 
 use std::alloc::AllocError;
 

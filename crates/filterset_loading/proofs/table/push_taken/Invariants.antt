@@ -1,6 +1,6 @@
 use Rattle.std.proofs.Common.{◌≡◌, ◌++◌, codes, string_bytes, take}
 use Rattle.std.specs.List.{flat_map}
-use Rattle.filterset_arguments.proofs.table.push_taken.Given as goal
+use Rattle.filterset_loading.proofs.table.push_taken.Given as goal
 
 -- the names so far were written
 abbrev pub invariant-loop-name : goal.invariant-loop-name

@@ -2,9 +2,9 @@
 use Rattle.std.specs.Prelude.{ℕ, ◌++◌, ◌==◌, chars, codes, encode_utf8, if◌then◌else◌}
 use Rattle.std.specs.List.{flat_map}
 use Rattle.clap.specs.declared.builder.command.Command.{Command}
-use Rattle.filterset_arguments.specs.Table.{Text, table}
-use Rattle.filterset_arguments.specs.declared.engines.TheConstants.{BASH_END, BASH_START, FISH_END, FISH_START, ZSH_END, ZSH_START}
-use Rattle.filterset_arguments.specs.declared.shell.Shell.{Shell, TheVariants.Bash, TheVariants.Fish, TheVariants.Zsh}
+use Rattle.filterset_loading.specs.Table.{Text, table}
+use Rattle.filterset_loading.specs.declared.engines.TheConstants.{BASH_END, BASH_START, FISH_END, FISH_START, ZSH_END, ZSH_START}
+use Rattle.filterset_loading.specs.declared.shell.Shell.{Shell, TheVariants.Bash, TheVariants.Fish, TheVariants.Zsh}
 
 abbrev pub name_of : Shell → Text
 name_of Bash = codes "bash"

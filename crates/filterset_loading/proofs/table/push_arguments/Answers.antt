@@ -1,8 +1,8 @@
 use Rattle.std.proofs.Common.{◌≡◌, ◌++◌, arith, rules, string_bytes}
 use Rattle.std.proofs.lemmas.Grind.{common_steps}
-use Rattle.filterset_arguments.specs.Table.{argument_line, long_name, short_name}
-use Rattle.filterset_arguments.proofs.table.push_arguments.Goals as goal
-use Rattle.filterset_arguments.proofs.table.push_arguments.Goals.{in-Some+in_ok-write-2, in_default, in-Some-get_short+in_ok-write-3, in_default-get_short}
+use Rattle.filterset_loading.specs.Table.{argument_line, long_name, short_name}
+use Rattle.filterset_loading.proofs.table.push_arguments.Goals as goal
+use Rattle.filterset_loading.proofs.table.push_arguments.Goals.{in-Some+in_ok-write-2, in_default, in-Some-get_short+in_ok-write-3, in_default-get_short}
 
 pub loop-argument-preserved : goal.loop-argument-preserved
 loop-argument-preserved c =

@@ -1,7 +1,7 @@
 use Rattle.std.proofs.Common.{◌≡◌, ◌++◌, string_bytes, take}
 use Rattle.std.specs.List.{flat_map}
-use Rattle.filterset_arguments.specs.Table.{argument_line}
-use Rattle.filterset_arguments.proofs.table.push_arguments.Given as goal
+use Rattle.filterset_loading.specs.Table.{argument_line}
+use Rattle.filterset_loading.proofs.table.push_arguments.Given as goal
 
 -- the arguments so far were written
 abbrev pub invariant-loop-argument : goal.invariant-loop-argument

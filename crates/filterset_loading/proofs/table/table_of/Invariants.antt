@@ -1,7 +1,7 @@
 use Rattle.std.proofs.Common.{◌≡◌, ◌++◌, string_bytes, take}
 use Rattle.std.specs.List.{flat_map}
-use Rattle.filterset_arguments.specs.Table.{command_text}
-use Rattle.filterset_arguments.proofs.table.table_of.Given as goal
+use Rattle.filterset_loading.specs.Table.{command_text}
+use Rattle.filterset_loading.proofs.table.table_of.Given as goal
 
 -- the commands so far were written
 abbrev pub invariant-loop-below : goal.invariant-loop-below

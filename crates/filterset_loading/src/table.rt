@@ -1,6 +1,6 @@
 //! The table of commands and arguments, which each script has.
 ghost use Rattle.std.specs.Prelude.{◌≡◌, ◌++◌, IfOk, OnOk, string_bytes};
-ghost use Rattle.filterset_arguments.specs.Table.{arguments_text, table, taken};
+ghost use Rattle.filterset_loading.specs.Table.{arguments_text, table, taken};
 
 use crate::engines::ADDED;
 use clap::builder::ValueParser;

@@ -1,6 +1,6 @@
 //! The shells.
 ghost use Rattle.std.specs.Prelude.{◌≡◌, ◌≢◌, IfNone, IfSome};
-ghost use Rattle.filterset_arguments.specs.Scripts.{end_of, name_of, start_of};
+ghost use Rattle.filterset_loading.specs.Scripts.{end_of, name_of, start_of};
 
 use crate::engines::{BASH_END, BASH_START, FISH_END, FISH_START, ZSH_END, ZSH_START};
 

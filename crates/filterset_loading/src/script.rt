@@ -1,6 +1,6 @@
 //! The script of a shell.
 ghost use Rattle.std.specs.Prelude.{◌≡◌, IfOk, string_bytes};
-ghost use Rattle.filterset_arguments.specs.Scripts.{script_of};
+ghost use Rattle.filterset_loading.specs.Scripts.{script_of};
 
 use crate::quoting::push_quoted;
 use crate::shell::Shell;
