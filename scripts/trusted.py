@@ -16,7 +16,7 @@ from repository import crates, text_of, tracked
 
 PROGRAMS = ("filterset_cli", "filterset", "filterset_c")
 # What docs/PROVED.md promises of crates that nothing but a program is made of.
-PROMISED = {"filterset": {"run", "status", "serve_editor"},
+PROMISED = {"filterset": {"run", "status", "serve_editor"}, "filterset_cli": {"Filtersets"},
             "filterset_loading": {"task_of", "completion_script", "Shell"}}
 # Members that prove something where they are used.
 PROVING = {"laws", "xor_laws", "total", "matches_partial_cmp", "matches_eq", "respects_eq", "coded", "invariant"}

@@ -2,7 +2,7 @@
 use Rattle.std.proofs.Common.{◌≡◌, ℕ, List, inl, inr, subst}
 use Rattle.std.specs.Prelude.{Some}
 use Rattle.serde_json.specs.{Data.Data, Read.read}
-use Rattle.filterset_report.specs.Record.{IsRecord, RecordRow}
+use Rattle.filterset_record.specs.Record.{IsRecord, RecordRow}
 use Rattle.filterset_c.specs.Workspaces.{IsNoGraphOf, IsNoRecord}
 
 -- the value of a text is no record

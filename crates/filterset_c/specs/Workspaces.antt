@@ -5,7 +5,7 @@ use Rattle.filterset_faults.specs.declared.kind.FiltersetKind.TheVariants.{Defau
 use Rattle.filterset_graph.specs.{Refusals.IsRefusalOf, declared.refusal.GraphRefusal.GraphRefusal}
 use Rattle.filterset_graph.specs.declared.package.PackageMetadata.{PackageMetadata}
 use Rattle.filterset_graph.specs.declared.refusal.GraphRefusal.TheVariants as graph
-use Rattle.filterset_report.specs.Record.{RecordRow, IsRecord}
+use Rattle.filterset_record.specs.Record.{RecordRow, IsRecord}
 use Rattle.filterset_sources.specs.Metadata.{IsMetadata, RefusesMetadata}
 use Rattle.filterset_sources.specs.declared.refusal.SourceRefusal.{SourceRefusal, TheVariants.OutOfMemory}
 use Rattle.nextest_filtering.specs.{Groups.AreGroups, Groups.IsGlobalOnly, declared.filterset.Filterset.Filterset}

@@ -3,7 +3,7 @@ ghost use Rattle.std.specs.Prelude.{◌≡◌, ◌≢◌, ◌⊎◌, All, Err, N
 ghost use Rattle.std.specs.Str.{IsUtf8};
 ghost use Rattle.serde_json.specs.{Read.read, View.view};
 ghost use Rattle.filterset_faults.specs.declared.kind.FiltersetKind.TheVariants as kinds;
-ghost use Rattle.filterset_report.specs.{Record.IsRecord, Record.RecordRow, Rows.record_row};
+ghost use Rattle.filterset_record.specs.{Record.IsRecord, Record.RecordRow, Rows.record_row};
 ghost use Rattle.filterset_sources.specs.Metadata.{IsMetadata};
 ghost use Rattle.nextest_filtering.specs.Groups.{AreGroups, IsKnown};
 ghost use Rattle.filterset_c.specs.{Parsing.IsRefused, Queries.IsText, Statuses.IsSourceFailure};
@@ -15,7 +15,7 @@ use crate::object::{Object, Refusal, Workspace};
 use crate::parsing::parse_within;
 use crate::queries::{Text, are_utf8, text_of};
 use filterset_json::{Entry, EntryRefusal};
-use filterset_report::Record;
+use filterset_record::Record;
 use filterset_sources::{SourceRefusal, read_json, read_metadata};
 use nextest_filtering::{FiltersetKind, GraphRefusal, KnownGroups, PackageGraph, PackageMetadata};
 use serde_json::Value;

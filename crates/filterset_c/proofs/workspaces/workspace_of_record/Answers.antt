@@ -1,6 +1,6 @@
 use Rattle.std.proofs.Common.{rules, arith, ◌≡◌, ℕ, List, Some, refl, subst}
 use Rattle.serde_json.specs.{Read.read, View.view}
-use Rattle.filterset_report.specs.Rows.{record_row}
+use Rattle.filterset_record.specs.Rows.{record_row}
 use Rattle.filterset_c.proofs.Records.{packages_are_no_graph}
 use Rattle.filterset_c.proofs.workspaces.workspace_of_record.Goals as goal
 

@@ -1,5 +1,0 @@
-use Rattle.filterset_columns.proofs.BitLemmas.{turned_bit}
-use Rattle.filterset_columns.proofs.bits.negate_word.Goals as goal
-
-pub returns : goal.returns
-returns c = λ i within. turned_bit c.args.word i c.ranges.word.fits within

@@ -1,0 +1,10 @@
+pub mod Answers
+pub mod Bits
+pub mod Columns
+pub mod Grouped
+pub mod Hits
+pub mod Joined
+pub mod Operators
+pub mod Record
+pub mod Rows
+pub mod Searching

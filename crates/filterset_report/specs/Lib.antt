@@ -1,9 +1,0 @@
-pub mod Ending
-pub mod Index
-pub mod Lookup
-pub mod Library
-pub mod Lines
-pub mod Asking
-pub mod Report
-pub mod Record
-pub mod Rows
