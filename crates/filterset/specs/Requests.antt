@@ -1,9 +1,9 @@
 -- What is answered to each request.
-use Rattle.std.specs.Prelude.{◌≡◌, ◌⊎◌, ◌<◌, Bool, ℕ, List, Option, codes, map}
+use Rattle.std.specs.Prelude.{◌≡◌, ◌⊎◌, ◌<◌, Bool, false, ℕ, List, Option, codes, map}
 use Rattle.std.specs.{Borrow.Bor, declared.io.Error.Error}
 use Rattle.clap.specs.declared.error.kind.ErrorKind.{ErrorKind, TheVariants.DisplayHelp, TheVariants.DisplayVersion}
 use Rattle.filterset_asking.specs.Formatted.{FormatsTexts, SimplifiesTexts}
-use Rattle.filterset_entries.specs.{Checked.TextRow, Endings.ending_of, Entries.input_rows, Entries.numbered_rows}
+use Rattle.filterset_entries.specs.{Checked.TextRow, Endings.ending_of, Entries.line_rows, Entries.numbered_rows}
 use Rattle.filterset_entries.specs.declared.text.Ending.{Ending, TheVariants.Fine}
 use Rattle.filterset_drawing.specs.{Columns.Text, declared.source.Source.Source}
 use Rattle.filterset_faults.specs.declared.kind.FiltersetKind.{FiltersetKind}
@@ -28,7 +28,7 @@ IsInputFile input file = (file.origin.now ≡ input_name) × (file.text.now ≡ 
 -- the rows of the filtersets: the arguments, as `argument 2`, or the lines of standard input, as `line 7`
 abbrev pub rows_of : FiltersetKind → Texts → Bor Source → List TextRow
 rows_of kind (Given texts) file = numbered_rows (codes "argument") kind (map (λ t. t.now) texts.now)
-rows_of kind StandardInput file = input_rows file kind
+rows_of kind StandardInput file = line_rows false file kind
 
 -- the words of the command line ask for the help or the version
 abbrev pub IsShown : ErrorKind → Type 0

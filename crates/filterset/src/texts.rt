@@ -8,7 +8,7 @@ ghost use Rattle.filterset.specs.Requests.{IsInputFile, rows_of};
 
 use filterset_asking::{check_texts, format_texts, simplify_texts};
 use filterset_drawing::{Form, Source};
-use filterset_entries::{Answer, TextEntry, given_entries, input_entries};
+use filterset_entries::{Answer, TextEntry, given_entries, line_entries};
 use filterset_loading::{CheckPaths, CommandFault, FileSource, INPUT_NAME, Texts};
 use nextest_filtering::FiltersetKind;
 use std::alloc::{AllocError, Global};
@@ -31,7 +31,7 @@ fn entries_of<'t>(
 {
     match texts {
         Texts::Given(texts) => given_entries(alloc, "argument", kind, texts),
-        Texts::StandardInput => input_entries(alloc, kind, input),
+        Texts::StandardInput => line_entries(alloc, input, kind, false),
     }
 }
 

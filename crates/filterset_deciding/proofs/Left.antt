@@ -24,6 +24,12 @@ abbrev stripped : {S : Type 0} → Tree S → Tree S
 stripped (Not op e) = e
 stripped e = e
 
+both_all : {X : Type 0} (P : X → Type 0) (xs ys : List X) → All P (xs ++ ys) → All P xs × All P ys
+both_all P [] ys all = (All-nil P, all)
+both_all P (x ∷ xs) ys all =
+    let rest = both_all P xs ys (All-tail P x (xs ++ ys) all) in
+    (All-cons P x xs (All-head P x (xs ++ ys) all) rest.0, rest.1)
+
 module _ {S : Type 0} where
   unnegated : {e d : Tree S} → IsLeftOf e d → IsLeftOf e (stripped d)
   unnegated leaf = leaf
@@ -223,12 +229,6 @@ module _ {S : Type 0} where
   parens_left (enclosed h) (added.parens p) = enclosed (parens_left h p)
 
   -- ---- predicates
-
-  both_all : {X : Type 0} (P : X → Type 0) (xs ys : List X) → All P (xs ++ ys) → All P xs × All P ys
-  both_all P [] ys all = (All-nil P, all)
-  both_all P (x ∷ xs) ys all =
-      let rest = both_all P xs ys (All-tail P x (xs ++ ys) all) in
-      (All-cons P x xs (All-head P x (xs ++ ys) all) rest.0, rest.1)
 
   abbrev Formed : Leaf S → Type 0
   Formed l = IsWellFormedLeaf l

@@ -116,7 +116,7 @@ rewritten_none rows texts others no_rows no_texts no_others =
 
 -- ---- filtersets of documents
 
-pub lines_are : (file : Source) (listed : Bor Source) (rows : List TextRow) → rows ≡ line_rows listed kinds.Test → listed.now ≡ file
+pub lines_are : (file : Source) (listed : Bor Source) (rows : List TextRow) → rows ≡ line_rows true listed kinds.Test → listed.now ≡ file
     → AreRowsOf (Lines file) rows
 lines_are file listed rows are same = (listed, same, are)
 

@@ -1,5 +1,5 @@
 -- What documents hold, and whether a document holds the same as another but with other texts.
-use Rattle.std.specs.Prelude.{◌≡◌, ◌⊎◌, Bool, false, List, [], ◌∷◌, MatchBool, None, Option, Some, String, Vec, is_none, map, option_map, string_bytes, unwrap_or}
+use Rattle.std.specs.Prelude.{◌≡◌, ◌⊎◌, Bool, false, true, List, [], ◌∷◌, MatchBool, None, Option, Some, String, Vec, is_none, map, option_map, string_bytes, unwrap_or}
 use Rattle.std.specs.{Bool.Decides, Borrow.Bor, declared.alloc.Global.Global}
 use Rattle.filterset_entries.specs.{Checked.TextRow, Checked.text_row, Entries.line_rows, Entries.rows_in}
 use Rattle.filterset_entries.specs.declared.entries.ConfiguredTexts.{ConfiguredTexts}
@@ -31,7 +31,7 @@ content_row c = record {
 -- the lines of a text, each a filterset of tests
 abbrev pub IsOfLines : Text → ContentRow → Type 0
 IsOfLines text content = (file : Bor Source) × (file.now.text.now ≡ text) × (content.groups ≡ None)
-    × (content.rows ≡ line_rows file kinds.Test)
+    × (content.rows ≡ line_rows true file kinds.Test)
 
 -- the filtersets and groups of a configuration with this text
 abbrev pub IsOfConfiguration : Text → ContentRow → Type 0
@@ -74,6 +74,6 @@ Becomes content texts after answer =
 -- ---- what only contracts of functions that read documents cite
 
 abbrev pub AreRowsOf : Filtersets → List TextRow → Type 0
-AreRowsOf (Lines file) rows = (listed : Bor Source) × (listed.now ≡ file) × (rows ≡ line_rows listed kinds.Test)
+AreRowsOf (Lines file) rows = (listed : Bor Source) × (listed.now ≡ file) × (rows ≡ line_rows true listed kinds.Test)
 AreRowsOf (Configured file filtersets places) rows =
     (texts : ConfiguredTexts) × AreTexts file filtersets.items places texts × (rows ≡ rows_in texts)

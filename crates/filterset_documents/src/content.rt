@@ -25,7 +25,7 @@ impl Filtersets<'_> {
         ensures { IfOk result (λ entries. AreRowsOf self.entry.now (map text_row entries.items)) }
     {
         match self {
-            Filtersets::Lines(file) => line_entries(alloc, FiltersetKind::Test, file),
+            Filtersets::Lines(file) => line_entries(alloc, file, FiltersetKind::Test, true),
             Filtersets::Configured(file, filtersets, places) => {
                 let configured = configured_texts(file, filtersets.as_slice(), places);
                 configured_entries(alloc, configured)

@@ -49,15 +49,8 @@ line_row keeps_blank file kind numbered =
     listed_row keeps_blank file kind (numbered.0 + 1) (line_start file.now.text.now numbered.0 + length numbered.1) numbered.1
 
 -- the rows of the lines of a file that are not passed over, which are called `line` and numbered from 1
-abbrev pub rows_among : Bool → Bor Source → FiltersetKind → List TextRow
-rows_among keeps_blank file kind = filter_map (line_row keeps_blank file kind) (enumerate_from 0 (lines file.now.text.now))
-
--- of a list in an editor blank lines are kept, and of standard input they are not
-abbrev pub line_rows : Bor Source → FiltersetKind → List TextRow
-line_rows file kind = rows_among true file kind
-
-abbrev pub input_rows : Bor Source → FiltersetKind → List TextRow
-input_rows file kind = rows_among false file kind
+abbrev pub line_rows : Bool → Bor Source → FiltersetKind → List TextRow
+line_rows keeps_blank file kind = filter_map (line_row keeps_blank file kind) (enumerate_from 0 (lines file.now.text.now))
 
 -- a filterset of a configuration is called by its path
 abbrev pub file_row : Option Placement → ConfiguredFilterset → TextRow

@@ -1,7 +1,7 @@
 //! The texts that commands are about, each with where it comes from.
 ghost use Rattle.std.specs.Prelude.{◌≡◌, ◌≤◌, IfOk, length, map, option_map};
 ghost use Rattle.filterset_entries.specs.Checked.{row_of, text_row};
-ghost use Rattle.filterset_entries.specs.Entries.{default_row, file_row, input_rows, is_passed_over, line_rows, listed_row, numbered_row, numbered_rows, placement_at, question_rows, rows_among, rows_in, unmarked};
+ghost use Rattle.filterset_entries.specs.Entries.{default_row, file_row, is_passed_over, line_rows, listed_row, numbered_row, numbered_rows, placement_at, question_rows, rows_in, unmarked};
 ghost use Rattle.filterset_entries.specs.Placements.{placement_of};
 
 use crate::place::{FilePlace, Spot};
@@ -96,13 +96,21 @@ fn line_entry<'t>(
     Ok(Some(entry))
 }
 
-/// Makes an entry of each line, called `line` and its number, with its place in the file. Lines that begin with `#`, and a
-/// byte-order mark are passed over.
-fn entries_among<'t>(alloc: Global, lines: Lines<'t>) -> Result<Vec<TextEntry<'t>>, AllocError>
-    ensures { IfOk result (λ entries.
-        map text_row entries.items ≡ rows_among lines.entry.keeps_blank lines.entry.file lines.entry.kind) }
+/// Makes an entry of each line of a file, called `line` and its number, with its place in the file. Lines that begin with `#`,
+/// blank lines unless they are kept, and a byte-order mark are passed over.
+pub fn line_entries<'t>(
+    alloc: Global,
+    file: &'t Source<'t>,
+    kind: FiltersetKind,
+    keeps_blank: bool,
+) -> Result<Vec<TextEntry<'t>>, AllocError>
+    ensures { IfOk result (λ entries. map text_row entries.items ≡ line_rows keeps_blank file.entry kind) }
 {
-    let file = lines.file;
+    let lines = Lines {
+        file,
+        kind,
+        keeps_blank,
+    };
     let mut entries = Vec::new(alloc);
     let (mut number, mut from) = (0, 0);
     // What `split` returns has the carriage return of the line break too, and `lines` has not.
@@ -114,45 +122,6 @@ fn entries_among<'t>(alloc: Global, lines: Lines<'t>) -> Result<Vec<TextEntry<'t
         from += piece.len() + 1;
     }
     Ok(entries)
-}
-
-/// Makes an entry of each line of a file, called `line` and its number, with its place in the file. Lines that begin with `#`,
-/// and a byte-order mark are passed over.
-pub fn line_entries<'t>(
-    alloc: Global,
-    kind: FiltersetKind,
-    file: &'t Source<'t>,
-) -> Result<Vec<TextEntry<'t>>, AllocError>
-    ensures { IfOk result (λ entries. map text_row entries.items ≡ line_rows file.entry kind) }
-{
-    let keeps_blank = true;
-    entries_among(
-        alloc,
-        Lines {
-            file,
-            kind,
-            keeps_blank,
-        },
-    )
-}
-
-/// Makes an entry of each line of standard input, as [`line_entries`] does, but of blank lines.
-pub fn input_entries<'t>(
-    alloc: Global,
-    kind: FiltersetKind,
-    file: &'t Source<'t>,
-) -> Result<Vec<TextEntry<'t>>, AllocError>
-    ensures { IfOk result (λ entries. map text_row entries.items ≡ input_rows file.entry kind) }
-{
-    let keeps_blank = false;
-    entries_among(
-        alloc,
-        Lines {
-            file,
-            kind,
-            keeps_blank,
-        },
-    )
 }
 
 /// Makes an entry of a text.

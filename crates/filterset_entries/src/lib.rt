@@ -16,7 +16,7 @@ mod unread;
 
 pub use entries::{
     ConfiguredTexts, configured_entries, configured_texts, default_entry, entry_of, given_entries,
-    input_entries, line_entries, question_entries,
+    line_entries, question_entries,
 };
 pub use faults::{fault_remarks, faults_of, parse_entry};
 pub use form::{RemarkWriter, push_faults};

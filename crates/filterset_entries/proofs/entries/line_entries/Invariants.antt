@@ -1,7 +1,7 @@
 use Rattle.std.proofs.Common.{◌≡◌, length, map, take}
 use Rattle.std.specs.{List.enumerate_from, List.filter_map, Str.Lines.lines}
 use Rattle.filterset_entries.specs.{Checked.text_row, Entries.line_row, Entries.line_start}
-use Rattle.filterset_entries.proofs.entries.entries_among.Given as goal
+use Rattle.filterset_entries.proofs.entries.line_entries.Given as goal
 
 -- the lines so far have their entries, and the next begins here
 abbrev pub invariant-loop-line : goal.invariant-loop-line

@@ -6,12 +6,12 @@ use Rattle.std.specs.{Prelude.option_to_list, Str.Lines.lines}
 use Rattle.filterset_entries.specs.Entries.{line_row, listed_row}
 use Rattle.filterset_entries.proofs.LineLemmas.{LineTurn, line_turn, turns_long}
 use Rattle.filterset_entries.proofs.RowsLemmas.{next_entries}
-use Rattle.filterset_entries.proofs.entries.entries_among.Goals.{in-Some-2+in_ok-push, in_default}
-use Rattle.filterset_entries.proofs.entries.entries_among.Goals as goal
+use Rattle.filterset_entries.proofs.entries.line_entries.Goals.{in-Some-2+in_ok-push, in_default}
+use Rattle.filterset_entries.proofs.entries.line_entries.Goals as goal
 
 pub overflow_add-from : goal.overflow_add-from
 overflow_add-from c =
-    let text = c.args.lines.file.now.text.now in
+    let text = c.args.file.now.text.now in
     let chain = YieldsList-from_zip {s = c.into_iter-line-iterator.result} (YieldsList-from_lines text (cc)) (YieldsList-from_str_split 10 text (lit< tt) (cc) (cc) (cc)) in
     let next = YieldsList-turn chain c.loop-line.yielded c.loop-line.line-iterator c.loop-line.yielded_by c.next.result c.next.new.self (c.in-Some.line, c.in-Some.piece) c.in-Some.is c.next.ensures.steps in
     let turn : LineTurn text (length c.loop-line.yielded) c.in-Some.line.now c.in-Some.piece.now = line_turn text (length c.loop-line.yielded) (c.in-Some.line.now, c.in-Some.piece.now) next.0 next.1 in
@@ -19,7 +19,7 @@ overflow_add-from c =
 
 pub overflow_add-from-in-loop-line-2 : goal.overflow_add-from-in-loop-line-2
 overflow_add-from-in-loop-line-2 c =
-    let text = c.args.lines.file.now.text.now in
+    let text = c.args.file.now.text.now in
     let chain = YieldsList-from_zip {s = c.into_iter-line-iterator.result} (YieldsList-from_lines text (cc)) (YieldsList-from_str_split 10 text (lit< tt) (cc) (cc) (cc)) in
     let next = YieldsList-turn chain c.loop-line.yielded c.loop-line.line-iterator c.loop-line.yielded_by c.next.result c.next.new.self (c.in-Some.line, c.in-Some.piece) c.in-Some.is c.next.ensures.steps in
     let turn : LineTurn text (length c.loop-line.yielded) c.in-Some.line.now c.in-Some.piece.now = line_turn text (length c.loop-line.yielded) (c.in-Some.line.now, c.in-Some.piece.now) next.0 next.1 in
@@ -27,8 +27,7 @@ overflow_add-from-in-loop-line-2 c =
 
 pub loop-line-preserved : goal.loop-line-preserved
 loop-line-preserved c =
-    let lined = c.args.lines in
-    let file = lined.file in
+    let file = c.args.file in
     let text = file.now.text.now in
     let i = length c.loop-line.yielded in
     let line = c.in-Some.line.now in
@@ -37,7 +36,7 @@ loop-line-preserved c =
     let chain = YieldsList-from_zip {s = c.into_iter-line-iterator.result} (YieldsList-from_lines text (cc)) (YieldsList-from_str_split 10 text (lit< tt) (cc) (cc) (cc)) in
     let next = YieldsList-turn chain c.loop-line.yielded c.loop-line.line-iterator c.loop-line.yielded_by c.next.result c.next.new.self (c.in-Some.line, c.in-Some.piece) c.in-Some.is c.next.ensures.steps in
     let turn : LineTurn text i line c.in-Some.piece.now = line_turn text i (line, c.in-Some.piece.now) next.0 next.1 in
-    let row = c.in_ok-entry.ensures ∙ (λ j. listed_row lined.keeps_blank file lined.kind (c.loop-line.invariant.count j + 1) (c.loop-line.invariant.start j + length line) line) in
+    let row = c.in_ok-entry.ensures ∙ (λ j. listed_row c.args.keeps_blank file c.args.kind (c.loop-line.invariant.count j + 1) (c.loop-line.invariant.start j + length line) line) in
     let new : c.match-branch-2.entries.items ≡ entries ++ option_to_list found = elim c.match-branch-2.branch [
       | in-Some-2+in_ok-push w ↦ rw w.in-Some-2.is (ap (λ (v : _). v.items) w.entries-is ∙ w.in_ok-push.ensures.items)
       | in_default w ↦ rw w.in_default.is (ap (λ (v : _). v.items) w.entries-is ∙ sym (append-nil entries))
@@ -47,12 +46,12 @@ loop-line-preserved c =
       start = rw (length_push c.loop-line.yielded (c.in-Some.line, c.in-Some.piece)) (omega (arith, turn.next, c.loop-line.invariant.start));
       made =
           rw (length_push c.loop-line.yielded (c.in-Some.line, c.in-Some.piece))
-          (next_entries (line_row lined.keeps_blank file lined.kind) (lines text) i line entries c.match-branch-2.entries.items found turn.within turn.at c.loop-line.invariant.made row new);
+          (next_entries (line_row c.args.keeps_blank file c.args.kind) (lines text) i line entries c.match-branch-2.entries.items found turn.within turn.at c.loop-line.invariant.made row new);
     }
 
 pub returns : goal.returns
 returns c =
-    let text = c.args.lines.file.now.text.now in
+    let text = c.args.file.now.text.now in
     let chain = YieldsList-from_zip {s = c.into_iter-line-iterator.result} (YieldsList-from_lines text (cc)) (YieldsList-from_str_split 10 text (lit< tt) (cc) (cc) (cc)) in
     let end = YieldsList-end chain c.loop-line.yielded c.loop-line.line-iterator c.loop-line.yielded_by c.next.result c.next.new.self c.in-None.is c.next.ensures.steps in
     let entries = c.loop-line.invariant.made in
