@@ -3,7 +3,7 @@
 
 - Links lead to files, and to headings of them. Files and folders that a page names are there. What pages about the code
   (`OF_CODE`) name in backquotes, is a word of some source.
-- Quoted Rust and quoted clauses are in a source; quotations of crates.txt and of what a crate writes are right.
+- Quoted Rust and quoted clauses are in a source; quotations of crates.txt and of what a crate or test writes are right.
 - LANGUAGE.md has the reference text of the library. Tables of filtersets agree with examples/answers.* and faults.*.
 - PROVED.md names each public function of the crates in its headings, and each of their named clauses.
 """
@@ -98,6 +98,7 @@ def results():
     words = {*crates(), *re.findall(r"\w+", "\n".join([*rust, *map(text_of, tracked("crates/*.antt"))]))}
     files, lists = "\n".join(tracked()), [text_of("crates.txt"), *map(text_of, tracked("crates/*/stdout"))]
     sources, reports = list(map(squeezed, rust)), {}
+    lists += re.findall(r'(?s)"\\\n(.*?)";', "\n".join(rust))
     for name in ("answers", "faults"):
         texts = json.loads(text_of(f"examples/{name}.json"))["filtersets"]
         reports.update(zip(texts, re.split(r"(?m)^filterset \d+ ", text_of(f"examples/{name}.report"))[1:]))

@@ -6,7 +6,7 @@ use nextest_filtering::{
 use std::alloc::{AllocError, Global};
 use std::process::Abort;
 
-/// A package: its name, which is its id and that of its library too, whether it is in the workspace, and what it links to.
+/// A package: its name, whether it is in the workspace, and what it links to.
 type Row = (&'static str, bool, &'static str);
 
 /// `a` and `b` depend on each other, and `c` depends on `a` through `x`, which is outside the workspace.
@@ -21,10 +21,17 @@ pub fn id(alloc: Global, text: &str) -> Result<PackageId, AllocError> {
     Ok(PackageId::new(String::from_str(alloc, text)?))
 }
 
-fn package(alloc: Global, row: &Row) -> Result<PackageMetadata, AllocError> {
-    let (name, in_workspace, link) = *row;
+/// Makes a package that has a library. Its name is its id, and that of the library too.
+pub fn package(
+    alloc: Global,
+    name: &str,
+    in_workspace: bool,
+    dependencies: &[&str],
+) -> Result<PackageMetadata, AllocError> {
     let mut links = Vec::new(alloc);
-    links.push(id(alloc, link)?)?;
+    for dependency in dependencies {
+        links.push(id(alloc, dependency)?)?;
+    }
     let mut build_targets = Vec::new(alloc);
     build_targets.push(BuildTarget {
         id: BuildTargetId::Library,
@@ -42,8 +49,8 @@ fn package(alloc: Global, row: &Row) -> Result<PackageMetadata, AllocError> {
 /// Makes the graph of the rows.
 pub fn workspace(rt: &(impl AllocGlobal + Abort)) -> Result<PackageGraph, AllocError> {
     let mut packages = Vec::new(rt.alloc());
-    for row in &ROWS {
-        packages.push(package(rt.alloc(), row)?)?;
+    for (name, in_workspace, link) in ROWS {
+        packages.push(package(rt.alloc(), name, in_workspace, &[link])?)?;
     }
     match PackageGraph::new(rt.alloc(), packages) {
         Ok(graph) => Ok(graph),

@@ -1,6 +1,6 @@
 use Rattle.std.proofs.Common.{◌≡◌, false, Some, subst, sym, rules}
 use Rattle.filterset_expression.specs.{BinaryMeaning.IsDefiniteTree, declared.query.BinaryQuery.BinaryQuery}
-use Rattle.calling.proofs.plan.Goals as goal
+use Rattle.conformance.proofs.tests.calling.plan.Goals as goal
 
 -- a binary that is decided as false has no test that the filterset picks
 pub returns-then-eq : goal.returns-then-eq
