@@ -1,5 +1,5 @@
 -- Lines of formatted texts, as long as none has faults.
-use Rattle.std.proofs.Common.{◌≡◌, ◌≢◌, ◌+◌, ℕ, Bool, arith, List, [], ◌∷◌, ◌++◌, ◌∙◌, subst, refl, true, false}
+use Rattle.std.proofs.Common.{◌≡◌, ◌≢◌, ◌+◌, ℕ, Bool, arith, List, [], ◌∷◌, ◌++◌, ◌∙◌, subst, sym, refl, true, false}
 use Rattle.filterset_json.specs.Pieces.{Pieces}
 use Rattle.filterset_json.proofs.PieceLemmas.{Pieces-push}
 use Rattle.filterset_drawing.specs.Columns.{Text}

@@ -18,7 +18,7 @@ use Rattle.filterset_loading.specs.Files.{BySource, IsFileFault, name_of}
 use Rattle.filterset_loading.specs.Workspaces.{KnownPackages, RefusesValue}
 use Rattle.filterset_loading.specs.declared.{request.CheckPaths.CheckPaths, fault.CommandFault.CommandFault}
 use Rattle.filterset_asking.specs.{Configured.WarnsOfFile, Values.IsValuePiece}
-use Rattle.filterset_asking.specs.Warned.{AnswersWarned, IsWarnedFault, either_ending, request_after}
+use Rattle.filterset_asking.specs.Warned.{AnswersWarned, IsListedFault, either_ending, request_after}
 use Rattle.filterset_loading.specs.declared.fault.FileRole.TheVariants as roles
 
 -- the configuration is that of the file with these bytes, and has nothing where there is no file
@@ -76,7 +76,7 @@ LacksAsked path name bytes fault = IsRefusedProfile bytes path fault
 abbrev pub IsUnchecked : (Text → Option Text) → (Text → Error → Type 0) → List PackageMetadata → CheckPaths → Text
     → CommandFault → Type 0
 IsUnchecked content fails packages paths bytes fault =
-    IsWarnedFault content fails packages paths.configuration bytes paths.warnings fault
+    IsSomeAnd paths.warnings (λ request. IsListedFault content fails packages paths.configuration bytes request fault)
     ⊎ IsSomeAnd paths.configuration (λ path. LacksAsked path.now paths.profile.now bytes fault)
 
 -- one of the files that are given is not used: the configuration, or the one of the packages, or one for the warnings; or the

@@ -4,16 +4,12 @@ use Rattle.filterset_faults.specs.{Span.length_of, Span.offset_of, Span.span, de
 use Rattle.filterset_grammar.specs.Tree.{Tree, Not, Union, Join, Parens, Set}
 use Rattle.filterset_language.specs.Faults.{leaf_span}
 
--- from the start of one span to the end of another
-abbrev pub cover : SourceSpan → SourceSpan → SourceSpan
-cover first last =
-    span (offset_of first) (min (offset_of last + length_of last) (2 ^ 64 - 1) - offset_of first)
-
--- the span of two operands, if one of them has any
+-- the span of two operands, if one of them has any: from the start of the first to the end of the last
 abbrev pub joined : Option SourceSpan → Option SourceSpan → Option SourceSpan
 joined None right = right
 joined (Some first) None = Some first
-joined (Some first) (Some last) = Some (cover first last)
+joined (Some first) (Some last) =
+    Some (span (offset_of first) (min (offset_of last + length_of last) (2 ^ 64 - 1) - offset_of first))
 
 -- from the first span of the tree's predicates to the last; `all()` and `none()` have none
 abbrev pub tree_span : Tree SourceSpan → Option SourceSpan

@@ -86,8 +86,3 @@ IsListedFault content fails packages path bytes request fault =
     IsFileFault content fails roles.List (RefusesValue (RefusesList packages)) request.paths.list.now fault
     ⊎ ((list : Data) × (suites : List Suite) × IsListIn (content request.paths.list.now) packages request.paths.run_ignored list suites
     × IsSomeAnd path (λ p. IsProfileUnused content fails bytes request.paths.list.now list (profile_at p request) fault))
-
-abbrev pub IsWarnedFault : (Text → Option Text) → (Text → Error → Type 0) → List PackageMetadata → Option (Bor Text) → Text
-    → Option WarningRequest → CommandFault → Type 0
-IsWarnedFault content fails packages path bytes request fault =
-    IsSomeAnd request (λ r. IsListedFault content fails packages path bytes r fault)

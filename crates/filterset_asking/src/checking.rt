@@ -52,36 +52,6 @@ fn file_name(path: Option<&str>) -> &str
     }
 }
 
-/// Makes the entries of a configuration's filtersets, and after them those of other texts.
-fn all_entries<'t>(
-    alloc: Global,
-    configured: ConfiguredTexts<'t>,
-    given: Vec<TextEntry<'t>>,
-) -> Result<Vec<TextEntry<'t>>, AllocError>
-    ensures { IfOk result (λ all.
-        map text_row all.items ≡ rows_in configured.entry ++ map text_row given.entry.items) }
-{
-    let mut given = given;
-    let mut all = configured_entries(alloc, configured)?;
-    all.append(&mut given)?;
-    Ok(all)
-}
-
-/// Answers the wrong values of the configuration, and the faults of texts.
-fn check_known(
-    alloc: Global,
-    names: &Names<'_>,
-    texts: &CheckedTexts<'_>,
-    values: &[WrongValue],
-) -> Result<Answer, AllocError>
-    requires { IsKnown names.now.known_groups }
-    ensures { IfOk result (λ answer. ChecksKnown names.now texts.now.form texts.now.configured.file
-        (map text_row texts.now.entries.now) values.now answer.ending (string_bytes answer.text)) }
-{
-    let answer = check(alloc, names, texts.form, texts.entries)?;
-    add_values(alloc, texts.form, texts.configured.file, values, answer)
-}
-
 /// Returns the request for warnings, if the configuration has no wrong values.
 fn request_after<'w>(
     values: &[WrongValue],
@@ -139,7 +109,9 @@ fn check_all<'c, F: FileSource>(
     ensures refused { IfErr result (OrMemory (IsUnchecked (F.content files.now) (F.fails files.now) graph.now
         paths.entry configured.entry.file.now.text.now)) }
 {
-    let entries = all_entries(alloc, configured, given)?;
+    let mut given = given;
+    let mut entries = configured_entries(alloc, configured)?;
+    entries.append(&mut given)?;
     let own = warn_configuration(alloc, form, configured)?;
     let texts = CheckedTexts {
         form,
@@ -154,9 +126,11 @@ fn check_all<'c, F: FileSource>(
         },
     };
     let values = find_wrong_values(alloc, configured.file.text)?;
-    let answer = check_known(alloc, names, &texts, values.as_slice())?;
-    let request = request_after(values.as_slice(), paths.warnings);
-    find_asked(alloc, &paths, configured.file.text, values.as_slice())?;
+    let values = values.as_slice();
+    let checked = check(alloc, names, form, texts.entries)?;
+    let answer = add_values(alloc, form, configured.file, values, checked)?;
+    let request = request_after(values, paths.warnings);
+    find_asked(alloc, &paths, configured.file.text, values)?;
     let warnings = warn_checked(alloc, files, request, &texts)?;
     Ok(join_answers(alloc, answer, own.text.as_str(), warnings)?)
 }

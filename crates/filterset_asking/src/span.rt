@@ -1,26 +1,22 @@
 //! Spans of the parts of a filterset.
 ghost use Rattle.std.specs.Prelude.{◌≡◌};
 ghost use Rattle.filterset_language.specs.Views.{tree_of};
-ghost use Rattle.filterset_asking.specs.Spans.{cover, joined, tree_span};
+ghost use Rattle.filterset_asking.specs.Spans.{joined, tree_span};
 
 use filterset_entries::leaf_span;
 use filterset_faults::SourceSpan;
 use filterset_language::ParsedExpr;
 
-/// Returns the span from the start of one span to the end of another.
-fn cover(first: SourceSpan, last: SourceSpan) -> SourceSpan
-    ensures { result ≡ cover first last }
-{
-    let end = last.offset().saturating_add(last.len());
-    SourceSpan::new(first.offset(), end.saturating_sub(first.offset()))
-}
-
-/// Returns the span of two operands, the left one first.
+/// Returns the span of two operands, the left one first: from the start of one to the end of the other.
 fn join(left: Option<SourceSpan>, right: Option<SourceSpan>) -> Option<SourceSpan>
     ensures { result ≡ joined left right }
 {
     match (left, right) {
-        (Some(first), Some(last)) => Some(cover(first, last)),
+        (Some(first), Some(last)) => {
+            let end = last.offset().saturating_add(last.len());
+            let len = end.saturating_sub(first.offset());
+            Some(SourceSpan::new(first.offset(), len))
+        }
         (Some(span), None) | (None, Some(span)) => Some(span),
         (None, None) => None,
     }

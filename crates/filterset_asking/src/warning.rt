@@ -1,12 +1,12 @@
 //! The warnings of `check`: what a list of tests says of the texts that are checked.
-ghost use Rattle.std.specs.Prelude.{◌≡◌, ◌⊎◌, ◌++◌, IfErr, IfOk, None, map, string_bytes};
+ghost use Rattle.std.specs.Prelude.{◌≡◌, ◌⊎◌, ◌++◌, IfErr, IfOk, IsSomeAnd, None, map, string_bytes};
 ghost use Rattle.serde_json.specs.View.{view};
 ghost use Rattle.filterset_entries.specs.Checked.{text_row};
 ghost use Rattle.filterset_sources.specs.Configurations.{IsConfiguration};
 ghost use Rattle.filterset_sources.specs.declared.configuration.Configuration as configurations;
 ghost use Rattle.nextest_filtering.specs.Groups.{IsKnown};
 ghost use Rattle.filterset_asking.specs.Asking.{AnswersIn, Lacks};
-ghost use Rattle.filterset_asking.specs.Warned.{AnswersListed, AnswersWarned, HasConfiguration, IsListedFault, IsProfileUnused, IsWarnedFault, WarnsBy, either_ending};
+ghost use Rattle.filterset_asking.specs.Warned.{AnswersListed, AnswersWarned, HasConfiguration, IsListedFault, IsProfileUnused, WarnsBy, either_ending};
 ghost use Rattle.filterset_loading.specs.{Files.OrMemory, Configurations.profile_at};
 
 use crate::asking::{AskedWorkspace, Wanted, ask_plainly};
@@ -121,8 +121,8 @@ pub fn warn_checked<'x, F: FileSource>(
     ensures answered { IfOk result (λ answer. AnswersWarned (F.content files.now) texts.now.form texts.now.end
         texts.now.graph.now texts.now.groups.now texts.now.path texts.now.configured (map text_row texts.now.entries.now)
         request.entry answer.ending (string_bytes answer.text)) }
-    ensures refused { IfErr result (OrMemory (IsWarnedFault (F.content files.now) (F.fails files.now) texts.now.graph.now
-        texts.now.path texts.now.configured.file.now.text.now request.entry)) }
+    ensures refused { IfErr result (OrMemory (λ fault. IsSomeAnd request.entry (λ asked. IsListedFault (F.content files.now)
+        (F.fails files.now) texts.now.graph.now texts.now.path texts.now.configured.file.now.text.now asked fault))) }
 {
     match request {
         Some(request) => warn_listed(alloc, files, &request, texts),

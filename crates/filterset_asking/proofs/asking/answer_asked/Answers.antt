@@ -1,5 +1,11 @@
 use Rattle.filterset_asking.proofs.asking.answer_asked.Goals as goal
 
+pub returns-in_ok-ask_workspace-in-List-clause-answered : goal.returns-in_ok-ask_workspace-in-List-clause-answered
+returns-in_ok-ask_workspace-in-List-clause-answered c = rw c.in-List.is c.in_ok-ask_workspace-in-List.ensures
+
+pub returns-in_ok-ask_workspace-in-Compare-clause-answered : goal.returns-in_ok-ask_workspace-in-Compare-clause-answered
+returns-in_ok-ask_workspace-in-Compare-clause-answered c = rw c.in-Compare.is c.in_ok-ask_workspace-in-Compare.ensures
+
 -- a test is explained as one that counts, or as one that does not
 pub returns-in_ok-explain_filterset-in-Explanation-clause-answered : goal.returns-in_ok-explain_filterset-in-Explanation-clause-answered
 returns-in_ok-explain_filterset-in-Explanation-clause-answered c =

@@ -37,7 +37,7 @@ returns-clause-refused g c =
     let Unused : CommandFault → Type 0 =
     IsProfileUnused content fails texts.configured.file.now.text.now request.paths.list.now (view c.in_ok-list.value) (profile_at c.in-Some.path request) in
     let Wrong : CommandFault → Type 0 = IsListedFault content fails texts.graph.now texts.path texts.configured.file.now.text.now request in
-    let told = rw (c.as_slice.ensures.value, c.profile_at-profile.ensures) at c.warn_configured.ensures.refused in
+    let told = rw c.profile_at-profile.ensures at c.warn_configured.ensures.refused in
     IfErr-weaker c.warn_configured.result _ _ (OrMemory-weaker (λ (fault : CommandFault). ⊥ ⊎ Unused fault) Wrong
     (λ fault either. elim either as (λ _. Wrong fault) [
       | inl lacks ↦ absurd lacks
