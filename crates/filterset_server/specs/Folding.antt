@@ -6,15 +6,11 @@ use Rattle.filterset_entries.specs.Checked.{TextRow}
 use Rattle.filterset_editor.specs.{Positions.Text, declared.positions.Encoding.Encoding, declared.positions.Range.Range}
 use Rattle.filterset_documents.specs.{Filtersets.place_span, Joins.Joins, Ranges.IsRangeOf}
 
--- from the line where the range begins to that where it ends
-abbrev pub fold_data : Range → Data
-fold_data range =
-    object (member (codes "endLine") (number (unsigned range.end.line))
-    (member (codes "startLine") (number (unsigned range.start.line)) no_members))
-
--- what is folded of a range: it, if it goes over several lines
+-- what is folded of a range: the lines from its start to its end, if these are several
 abbrev pub folds_of : Range → List Data
-folds_of range = if nat_lt range.start.line range.end.line then fold_data range ∷ [] else []
+folds_of range = if nat_lt range.start.line range.end.line
+    then object (member (codes "endLine") (number (unsigned range.end.line))
+    (member (codes "startLine") (number (unsigned range.start.line)) no_members)) ∷ [] else []
 
 -- what is folded of a filterset: the lines where it is, if there are several
 abbrev pub RowFolds : Encoding → Text → TextRow → List Data → Type 0

@@ -13,27 +13,18 @@ use Rattle.filterset_rewriting.specs.declared.tokens.{Token.Token, TokenKind.Tok
 use Rattle.filterset_rewriting.specs.declared.tokens.TokenKind.TheVariants.{EnumMember, Function, Keyword, Operator, Regexp, String}
 use Rattle.filterset_server.specs.declared.highlighting.Mark.{Mark}
 
--- the tokens of a filterset's text, if it reads as a tree
-abbrev pub TextTokens : Text → List Token → Type 0
-TextTokens text = OfTree text (AreTokens text) []
-
 -- ---- places
 
--- what is shown of a token in this range of the file, which begins at this offset: nothing, unless it is in one line
-abbrev pub marks_of : ℕ → Range → TokenKind → List Mark
-marks_of from range kind =
-    if (range.start.line == range.end.line) && nat_lt range.start.character range.end.character
-    then record { from = from; range = range; kind = kind } ∷ [] else []
-
--- what is shown of a token of a text at this place: the part of the file that it was read from
+-- what is shown of a token of a text at this place: the part of the file that it was read from, if that is in one line
 abbrev pub TokenMarks : Encoding → Text → Option Placement → Token → List Mark → Type 0
 TokenMarks encoding text place token marks = MatchOption (file_part place (Some token.span)) (marks ≡ [])
     (λ part. (range : Range) × IsRangeOf encoding text part.span range
-    × (marks ≡ marks_of (offset_of part.span) range token.kind))
+    × (marks ≡ (if (range.start.line == range.end.line) && nat_lt range.start.character range.end.character
+    then record { from = offset_of part.span; range = range; kind = token.kind } ∷ [] else [])))
 
--- what is shown of a filterset
+-- what is shown of a filterset: its tokens, if it reads as a tree
 abbrev pub RowMarks : Encoding → Text → TextRow → List Mark → Type 0
-RowMarks encoding text row marks = (tokens : List Token) × TextTokens row.text tokens
+RowMarks encoding text row marks = (tokens : List Token) × OfTree row.text (AreTokens row.text) [] tokens
     × Joins (TokenMarks encoding text row.place) tokens marks
 
 -- ---- the protocol

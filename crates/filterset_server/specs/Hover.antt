@@ -7,7 +7,7 @@ use Rattle.filterset_drawing.specs.declared.source.FileSpan.{FileSpan}
 use Rattle.filterset_editor.specs.Positions.{IsOffset, Text}
 use Rattle.filterset_editor.specs.declared.positions.{Encoding.Encoding, Position.Position}
 use Rattle.filterset_faults.specs.declared.span.SourceSpan.{SourceSpan}
-use Rattle.filterset_grammar.specs.Tree.{Leaf, Tree, tree_leaves}
+use Rattle.filterset_grammar.specs.Tree.{Leaf, tree_leaves}
 use Rattle.filterset_language.specs.Faults.{leaf_span}
 use Rattle.filterset_documents.specs.{Filtersets.OfTree, Filtersets.is_in, Filtersets.is_row_at, Ranges.IsRange}
 use Rattle.filterset_names.specs.Workspaces.{WorkspaceRow}
@@ -35,16 +35,12 @@ HoversLeaf w encoding text place leaf d = MatchOption (leaf_part place leaf) (d 
     (λ part. (range : Data) × (matched : Text) × IsRange encoding text part.span range × SaysMatched w leaf matched
     × (d ≡ hover_data (leaf_text leaf ++ matched) range))
 
--- the hover of the first predicate of the tree at this offset of the file, or `null` without one
-abbrev pub HoversTree : Option WorkspaceRow → Encoding → Text → Option Placement → ℕ → Tree SourceSpan → Data → Type 0
-HoversTree w encoding text place offset e d =
-    MatchOption (find (is_leaf_at place offset) (tree_leaves e)) (d ≡ null) (λ leaf. HoversLeaf w encoding text place leaf d)
-
 -- ---- filtersets
 
--- the hover of a filterset at this offset of the file: that of the tree that its text reads as, or `null` if it reads as none
+-- the hover of a filterset: that of the first predicate at this offset of the file, of the tree that its text reads as, or `null`
 abbrev pub HoversRow : Option WorkspaceRow → Encoding → Text → ℕ → TextRow → Data → Type 0
-HoversRow w encoding text offset row = OfTree row.text (HoversTree w encoding text row.place offset) null
+HoversRow w encoding text offset row = OfTree row.text (λ e d.
+    MatchOption (find (is_leaf_at row.place offset) (tree_leaves e)) (d ≡ null) (λ leaf. HoversLeaf w encoding text row.place leaf d)) null
 
 -- the hover of the first filterset that is at the position, or `null` without one
 abbrev pub HoversRows : Option WorkspaceRow → Encoding → Text → Position → List TextRow → Data → Type 0

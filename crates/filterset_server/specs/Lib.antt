@@ -6,9 +6,7 @@ pub mod Highlights
 pub mod Hover
 pub mod Matches
 pub mod Mending
-pub mod Proposals
 pub mod Repairs
-pub mod Spelling
 pub mod Subjects
 pub mod Symbols
 pub mod Unmatched

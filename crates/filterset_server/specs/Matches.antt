@@ -1,5 +1,5 @@
 -- What predicates match in a workspace, as Markdown.
-use Rattle.std.specs.Prelude.{◌≡◌, ◌-◌, ◌++◌, ℕ, zero, suc, List, [], Option, None, Some, codes, decimal, length, map}
+use Rattle.std.specs.Prelude.{◌≡◌, ◌-◌, ◌++◌, ℕ, zero, suc, [], Option, None, Some, codes, decimal, length, map}
 use Rattle.std.specs.List.{flat_map}
 use Rattle.filterset_editor.specs.Positions.{Text}
 use Rattle.filterset_grammar.specs.Tree.{Leaf}
@@ -8,12 +8,9 @@ use Rattle.filterset_names.specs.declared.matched.Matched.TheVariants.{Binaries,
 use Rattle.filterset_names.specs.declared.matched.Shortlist.{Shortlist}
 use Rattle.filterset_server.specs.Words.{code_span}
 
--- a line for each name
+-- the line of a name
 abbrev pub name_line : Text → Text
 name_line name = codes "\n- " ++ code_span name
-
-abbrev pub name_lines : List Text → Text
-name_lines names = flat_map name_line names
 
 -- how many names are not listed, if there are any
 abbrev pub more_line : ℕ → Text
@@ -24,7 +21,7 @@ more_line (suc n) = codes "\n- and " ++ (decimal (suc n) ++ codes " more")
 abbrev pub shortlist_text : Text → Shortlist → Text
 shortlist_text what short =
     let names = map (λ n. n.now) short.names.items in
-    codes "\n\n" ++ (what ++ (codes ": " ++ (decimal short.count ++ (codes "\n" ++ (name_lines names
+    codes "\n\n" ++ (what ++ (codes ": " ++ (decimal short.count ++ (codes "\n" ++ (flat_map name_line names
     ++ more_line (short.count - length names))))))
 
 abbrev pub matched_text : Option Matched → Text

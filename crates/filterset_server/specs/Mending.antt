@@ -1,27 +1,13 @@
--- Texts with edits, and whether these mend them.
-use Rattle.std.specs.Prelude.{◌≡◌, ◌⊎◌, ◌≤◌, ◌-◌, ◌++◌, ◌&&◌, ℕ, Bool, true, false, List, MatchOption, Option, None, Some, drop, length, nat_le, nat_lt, not, take}
-use Rattle.std.specs.{Bool.then_some, List.list_any, Option.option_map_or, Str.IsCharBoundary}
-use Rattle.filterset_documents.specs.Edits.{EditRow}
+-- Texts with edits that mend them.
+use Rattle.std.specs.Prelude.{◌≡◌, ◌⊎◌, ◌-◌, ◌&&◌, ◌∷◌, [], ℕ, Bool, true, false, List, Option, None, length, nat_le, nat_lt, not}
+use Rattle.std.specs.{Bool.then_some, List.list_any, Option.option_map_or}
+use Rattle.filterset_documents.specs.Edits.{AreEditsOf, EditRow, edited}
 use Rattle.filterset_editor.specs.Positions.{Text}
 use Rattle.filterset_faults.specs.{Faults.span_of, Span.offset_of}
 use Rattle.filterset_faults.specs.declared.{error.ParseSingleError.ParseSingleError, span.SourceSpan.SourceSpan}
 use Rattle.filterset_grammar.specs.Tree.{Tree}
 use Rattle.filterset_language.specs.Parsed.{IsUnreadWith}
-use Rattle.filterset_configuration.specs.declared.stretch.Stretch.{Stretch}
 use Rattle.filterset_rewriting.specs.{Nesting.Depth.IsTooDeep, Nesting.Depth.most_levels, Reading.IsRead}
-
--- ---- texts with edits
-
--- characters of the text begin, or it ends, where the stretch begins and ends
-abbrev pub IsBetween : Text → Stretch → Type 0
-IsBetween text at = (at.from ≤ at.to) × IsCharBoundary text at.from × IsCharBoundary text at.to
-
--- the text with the edit is this; none if the edit begins or ends in a character
-abbrev pub IsApplied : Text → EditRow → Option Text → Type 0
-IsApplied text edit None = IsBetween text edit.at → ⊥
-IsApplied text edit (Some new) = IsBetween text edit.at × (new ≡ take edit.at.from text ++ (edit.text ++ drop edit.at.to text))
-
--- ---- mended texts
 
 -- the fault begins in a stretch of this length from an offset on
 abbrev pub begins_in : ℕ → ℕ → ParseSingleError → Bool
@@ -34,7 +20,9 @@ IsClear text from len clear = ((e : Tree SourceSpan) × IsRead text e × (clear 
     ⊎ ((faults : List ParseSingleError) × IsUnreadWith text faults × (clear ≡ not (list_any (begins_in from len) faults)))
     ⊎ ((place : ℕ) × IsTooDeep most_levels text place × (clear ≡ false))
 
--- The text with the edit, in which no fault begins in what the edit wrote. None if one does, or if there is no such text.
+-- The text with the edit, in which no fault begins in what the edit wrote. None if one does, or if the edit does not begin and
+-- end between characters.
 abbrev pub IsMending : Text → EditRow → Option Text → Type 0
-IsMending text edit o = (applied : Option Text) × IsApplied text edit applied × MatchOption applied (o ≡ None)
-    (λ new. (clear : Bool) × IsClear new edit.at.from (length edit.text) clear × (o ≡ then_some clear new))
+IsMending text edit o = let edits = edit ∷ [] in ((¬ AreEditsOf text edits) × (o ≡ None))
+    ⊎ (AreEditsOf text edits × ((clear : Bool) × IsClear (edited text edits) edit.at.from (length edit.text) clear
+    × (o ≡ then_some clear (edited text edits))))

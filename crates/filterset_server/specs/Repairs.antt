@@ -63,15 +63,13 @@ IsCallRepair text s (Some row) = (e : Tree SourceSpan) × (behind : Text)
 
 -- ---- the table
 
--- an operator is put in place of a span
-abbrev pub respelt : Text → Text → SourceSpan → Text → Option RepairRow
-respelt title text s word =
-    let at = stretch_in text s in
-    Some (record { title = title; edit = record { at = at; text = spaced text at word } })
-
--- a word is put in place of a span as it is
+-- a word is put in place of a span, as it is
 abbrev pub reworded : Text → Text → SourceSpan → Text → Option RepairRow
 reworded title text s word = Some (record { title = title; edit = record { at = stretch_in text s; text = word } })
+
+-- an operator is, with blanks around it
+abbrev pub respelt : Text → Text → SourceSpan → Text → Option RepairRow
+respelt title text s word = reworded title text s (spaced text (stretch_in text s) word)
 
 -- What may be written in place of what a fault is about: the operator that is meant by another language's, and `\\` for a backslash
 -- that begins no escape.

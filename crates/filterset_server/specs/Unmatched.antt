@@ -13,20 +13,17 @@ use Rattle.filterset_grammar.specs.Tree.{Leaf, Matching, tree_leaves}
 use Rattle.filterset_grammar.specs.declared.predicate.Predicate.TheVariants.{Test}
 use Rattle.filterset_listing.specs.Unmatched.{Unmatched, unmatched_message}
 use Rattle.filterset_names.specs.{Something.MatchesSomething, Workspaces.WorkspaceRow}
-use Rattle.filterset_sources.specs.{Configurations.RefusesConfiguration, declared.list.Suite.Suite}
+use Rattle.filterset_sources.specs.Configurations.{RefusesConfiguration}
 use Rattle.filterset_sources.specs.declared.list.SuiteStatus.{SuiteStatus, TheVariants.Listed, TheVariants.Skipped}
 use Rattle.filterset_sources.specs.declared.refusal.SourceRefusal.{SourceRefusal}
 use Rattle.filterset_server.specs.Hover.{leaf_part}
 
 -- ---- predicates
 
-abbrev pub is_skipped_status : SuiteStatus → Bool
-is_skipped_status Listed = false
-is_skipped_status Skipped = true
-
--- nextest did not list the tests of the binary
-abbrev pub is_skipped : Suite → Bool
-is_skipped suite = is_skipped_status suite.status
+-- nextest did not list the tests of a binary
+abbrev pub is_skipped : SuiteStatus → Bool
+is_skipped Listed = false
+is_skipped Skipped = true
 
 -- how many of the skipped binaries may have a test that the predicate matches
 abbrev pub skipped_for : {S : Type 0} → ℕ → Leaf S → ℕ
@@ -40,18 +37,17 @@ WarnsOfLeaf encoding text place found ds = MatchOption (leaf_part place found.0)
 
 abbrev pub LeafWarnings : WorkspaceRow → Encoding → Text → Option Placement → Leaf SourceSpan → List Data → Type 0
 LeafWarnings w encoding text place leaf ds = (matches : Bool) × (IsTrue matches ↔ MatchesSomething w leaf)
-    × MatchBool matches (ds ≡ []) (WarnsOfLeaf encoding text place (leaf, skipped_for (count_by is_skipped w.suites) leaf) ds)
-
--- the predicate has a span in the file
-abbrev pub has_part : Option Placement → Leaf SourceSpan → Bool
-has_part place leaf = is_some (leaf_part place leaf)
+    × MatchBool matches (ds ≡ [])
+    (WarnsOfLeaf encoding text place (leaf, skipped_for (count_by (λ suite. is_skipped suite.status) w.suites) leaf) ds)
 
 -- ---- filtersets
 
--- the warnings of the predicates of the tree that a filterset reads as, one after the other; none if it reads as none
+-- the warnings of the predicates with a span in the file, of the tree that a filterset reads as, one after the other; none if it
+-- reads as none
 abbrev pub RowWarnings : WorkspaceRow → Encoding → Text → TextRow → List Data → Type 0
 RowWarnings w encoding text row =
-    OfTree row.text (λ e ds. Joins (LeafWarnings w encoding text row.place) (filter (has_part row.place) (tree_leaves e)) ds) []
+    OfTree row.text (λ e ds. Joins (LeafWarnings w encoding text row.place)
+    (filter (λ leaf. is_some (leaf_part row.place leaf)) (tree_leaves e)) ds) []
 
 -- those of filtersets, one after the other, where a workspace is known
 abbrev pub RowsWarnings : Option WorkspaceRow → Encoding → Text → List TextRow → List Data → Type 0

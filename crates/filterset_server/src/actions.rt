@@ -1,24 +1,25 @@
 //! The actions for the filtersets of a document.
-ghost use Rattle.std.specs.Prelude.{◌<◌, IfOk, length, map, string_bytes};
+ghost use Rattle.std.specs.Prelude.{◌≡◌, ◌<◌, IfOk, length, map, option_map, string_bytes};
 ghost use Rattle.serde_json.specs.View.{view};
-ghost use Rattle.filterset_entries.specs.{Checked.text_row, Placements.placement_of};
+ghost use Rattle.filterset_entries.specs.Checked.{text_row};
 ghost use Rattle.filterset_documents.specs.{Joins.Joins, Contents.content_row};
 ghost use Rattle.filterset_language.specs.Views.{tree_of};
-ghost use Rattle.filterset_server.specs.Actions.{ActsOn, AreActions, FaultActions, NewActions, ProposalActions, RangeActions, RewriteActions, RowActions, TextActions, TreeActions};
-ghost use Rattle.filterset_server.specs.{Proposals.proposal_row, Subjects.subject_row};
+ghost use Rattle.filterset_server.specs.Actions.{ActsOn, AreActions, FaultActions, IsRepairIn, IsSpelled, NewActions, ProposalActions, RewriteActions, RowActions, TextActions, TreeActions};
+ghost use Rattle.filterset_server.specs.Repairs.{repair_row};
+ghost use Rattle.filterset_server.specs.Subjects.{proposal_row, rewrite_row, subject_row, target_row};
 
-use crate::changes::choose_change;
+use crate::changes::choose_action;
 use crate::mending::mend;
-use crate::proposals::{Proposal, propose_text, repair_in};
-use crate::spelling::spelled_text;
-use crate::subject::{Subject, meets};
-use crate::values::range_actions;
-use filterset_documents::{Content, Shown, is_same, stretch_at, stretch_span};
-use filterset_editor::{Change, Range};
-use filterset_entries::{FilePlace, TextEntry};
+use crate::repairs::{Repair, repair_of};
+use crate::subject::{Proposal, Subject, meets};
+use crate::target::Target;
+use filterset_configuration::Stretch;
+use filterset_documents::{Content, Edit, Shown, fault_span, is_same, stretch_at, stretch_span};
+use filterset_editor::Range;
+use filterset_entries::TextEntry;
 use filterset_faults::ParseSingleError;
 use filterset_language::ParsedExpr;
-use filterset_rewriting::{TextRefusal, read_text, show_reading};
+use filterset_rewriting::{TextRefusal, caret_count, read_text, show_reading, spell_out};
 use serde_json::Value;
 use std::alloc::{AllocError, Global};
 
@@ -31,175 +32,171 @@ const ENCLOSE: &str = "Add parentheses";
 /// The title of the action that writes a filterset without `^`.
 const SPELL: &str = "Write without `^`";
 
-/// Makes the action that makes a change.
-fn change_actions(
-    alloc: Global,
-    subject: &Subject<'_>,
-    place: FilePlace<'_>,
-    proposal: &Proposal,
-    change: &Change,
-) -> Result<Vec<Value>, AllocError>
-    ensures { IfOk result (λ values. RangeActions (subject_row subject.now) (placement_of place.entry)
-        (proposal_row proposal.now) (string_bytes change.now.text) change.now.range (map view values.items)) }
-{
-    match change.range {
-        Some(range) => {
-            range_actions(alloc, subject, place, proposal, range, change.text.as_str())
-        }
-        None => Ok(Vec::new(alloc)),
-    }
-}
-
-/// Makes the action by which the filterset at a position gets this text, if a change of the file gives it that and changes no
+/// Makes the action of a proposal by which the filterset gets this text, if a change of the file gives it that and changes no
 /// other.
 fn new_actions(
     alloc: Global,
-    subject: &Subject<'_>,
-    at: usize,
-    place: FilePlace<'_>,
+    target: &Target<'_>,
     proposal: &Proposal,
     new: &str,
 ) -> Result<Vec<Value>, AllocError>
-    requires { at < length subject.now.content.entries.now }
-    ensures { IfOk result (λ values. NewActions (subject_row subject.now) at (placement_of place.entry)
-        (proposal_row proposal.now) new.now (map view values.items)) }
+    ensures { IfOk result (λ values. NewActions (target_row target.now) (proposal_row proposal.now) new.now (map view values.items)) }
 {
-    match choose_change(alloc, subject, at, place, proposal, new)? {
-        Some(change) => change_actions(alloc, subject, place, proposal, &change),
+    let mut values = Vec::new(alloc);
+    match choose_action(alloc, target, proposal, new)? {
+        Some(action) => {
+            values.push(action)?;
+            Ok(values)
+        }
+        None => Ok(values),
+    }
+}
+
+/// Makes the action of a proposal, if it mends the filterset's text.
+fn proposal_actions(
+    alloc: Global,
+    target: &Target<'_>,
+    proposal: &Proposal,
+) -> Result<Vec<Value>, AllocError>
+    ensures { IfOk result (λ values. ProposalActions (target_row target.now) (proposal_row proposal.now) (map view values.items)) }
+{
+    match mend(alloc, target.text, &proposal.repair.edit)? {
+        Some(new) => new_actions(alloc, target, proposal, new.as_str()),
         None => Ok(Vec::new(alloc)),
     }
 }
 
-/// Makes the action of a proposal for the text of the filterset at a position, if it mends the text.
-fn proposal_actions(
+/// Makes the repair of a fault, if it has one, and is in what is asked about.
+fn repair_in(
     alloc: Global,
-    subject: &Subject<'_>,
-    at: usize,
-    place: FilePlace<'_>,
-    text: &str,
-    proposal: &Proposal,
-) -> Result<Vec<Value>, AllocError>
-    requires { at < length subject.now.content.entries.now }
-    ensures { IfOk result (λ values. ProposalActions (subject_row subject.now) at (placement_of place.entry) text.now
-        (proposal_row proposal.now) (map view values.items)) }
+    target: &Target<'_>,
+    fault: &ParseSingleError,
+) -> Result<Option<Repair>, AllocError>
+    ensures { IfOk result (λ o. IsRepairIn (target_row target.now) fault.now (option_map repair_row o)) }
 {
-    match mend(alloc, text, &proposal.repair.edit)? {
-        Some(new) => new_actions(alloc, subject, at, place, proposal, new.as_str()),
-        None => Ok(Vec::new(alloc)),
+    if meets(target.subject, fault_span(Some(target.place), fault.span())) {
+        repair_of(alloc, target.text, fault)
+    } else {
+        Ok(None)
     }
 }
 
 /// Makes the action that mends a fault, if it has a repair, and is in what is asked about.
 fn fault_actions(
     alloc: Global,
-    subject: &Subject<'_>,
-    at: usize,
-    place: FilePlace<'_>,
-    text: &str,
+    target: &Target<'_>,
     fault: &ParseSingleError,
 ) -> Result<Vec<Value>, AllocError>
-    requires { at < length subject.now.content.entries.now }
-    ensures { IfOk result (λ values. FaultActions (subject_row subject.now) at (placement_of place.entry) text.now fault.now
-        (map view values.items)) }
+    ensures { IfOk result (λ values. FaultActions (target_row target.now) fault.now (map view values.items)) }
 {
-    let Some(repair) = repair_in(alloc, subject, place, text, fault)? else {
+    let Some(repair) = repair_in(alloc, target, fault)? else {
         return Ok(Vec::new(alloc));
     };
     let proposal = Proposal {
         fault: Some(*fault),
         repair,
     };
-    proposal_actions(alloc, subject, at, place, text, &proposal)
+    proposal_actions(alloc, target, &proposal)
 }
 
 /// Makes the actions that mend faults, in their order.
 fn mending_actions(
     alloc: Global,
-    subject: &Subject<'_>,
-    at: usize,
-    place: FilePlace<'_>,
-    text: &str,
+    target: &Target<'_>,
     faults: &[ParseSingleError],
 ) -> Result<Vec<Value>, AllocError>
-    requires { at < length subject.now.content.entries.now }
-    ensures { IfOk result (λ values. Joins (FaultActions (subject_row subject.now) at (placement_of place.entry) text.now)
-        faults.now (map view values.items)) }
+    ensures { IfOk result (λ values. Joins (FaultActions (target_row target.now)) faults.now (map view values.items)) }
 {
     let mut values = Vec::new(alloc);
     for fault in faults {
-        let mut more = fault_actions(alloc, subject, at, place, text, fault)?;
+        let mut more = fault_actions(alloc, target, fault)?;
         values.append(&mut more)?;
     }
     Ok(values)
 }
 
-/// Makes the action that writes a text anew, unless it is the same as another.
+/// Makes the proposal to write a text anew.
+fn propose_text(
+    alloc: Global,
+    title: &'static str,
+    text: &str,
+    new: &str,
+) -> Result<Proposal, AllocError>
+    ensures { IfOk result (λ p. proposal_row p ≡ rewrite_row title.now text.now new.now) }
+{
+    let at = Stretch {
+        from: 0,
+        to: text.len(),
+    };
+    let edit = Edit {
+        at,
+        text: String::from_str(alloc, new)?,
+    };
+    Ok(Proposal {
+        fault: None,
+        repair: Repair { title, edit },
+    })
+}
+
+/// Makes the action that writes a filterset anew, unless its new text is the same as another.
 fn rewrite_actions(
     alloc: Global,
-    subject: &Subject<'_>,
-    at: usize,
-    place: FilePlace<'_>,
-    text: &str,
+    target: &Target<'_>,
     title: &'static str,
     other: &str,
     new: &str,
 ) -> Result<Vec<Value>, AllocError>
-    requires { at < length subject.now.content.entries.now }
-    ensures { IfOk result (λ values. RewriteActions (subject_row subject.now) at (placement_of place.entry) text.now
-        title.now other.now new.now (map view values.items)) }
+    ensures { IfOk result (λ values. RewriteActions (target_row target.now) title.now other.now new.now (map view values.items)) }
 {
     if is_same(other, new) {
         return Ok(Vec::new(alloc));
     }
-    let proposal = propose_text(alloc, title, text, new)?;
-    proposal_actions(alloc, subject, at, place, text, &proposal)
+    let proposal = propose_text(alloc, title, target.text, new)?;
+    proposal_actions(alloc, target, &proposal)
 }
 
-/// Makes the actions for a text that reads as a tree.
+/// Makes the text of a tree without `^`, if it has one to eight of them, and else as it prints.
+fn spelled_text(alloc: Global, tree: &ParsedExpr) -> Result<String, AllocError>
+    ensures { IfOk result (λ made. IsSpelled (tree_of tree.now) (string_bytes made)) }
+{
+    if matches!(caret_count(tree), 1..=8) {
+        let spelled = spell_out(alloc, tree)?;
+        format!(in alloc; "{spelled}")
+    } else {
+        format!(in alloc; "{tree}")
+    }
+}
+
+/// Makes the actions for a filterset that reads as a tree.
 fn tree_actions(
     alloc: Global,
-    subject: &Subject<'_>,
-    at: usize,
-    place: FilePlace<'_>,
-    text: &str,
+    target: &Target<'_>,
     tree: &ParsedExpr,
 ) -> Result<Vec<Value>, AllocError>
-    requires { at < length subject.now.content.entries.now }
-    ensures { IfOk result (λ values. TreeActions (subject_row subject.now) at (placement_of place.entry) text.now
-        (tree_of tree.now) (map view values.items)) }
+    ensures { IfOk result (λ values. TreeActions (target_row target.now) (tree_of tree.now) (map view values.items)) }
 {
     let printed = format!(in alloc; "{tree}")?;
     let printed = printed.as_str();
     let shown = show_reading(alloc, tree)?;
     let shown = format!(in alloc; "{shown}")?;
     let shown = shown.as_str();
-    let mut values = rewrite_actions(alloc, subject, at, place, text, FORMAT, text, printed)?;
-    let mut more = rewrite_actions(alloc, subject, at, place, text, ENCLOSE, printed, shown)?;
+    let mut values = rewrite_actions(alloc, target, FORMAT, target.text, printed)?;
+    let mut more = rewrite_actions(alloc, target, ENCLOSE, printed, shown)?;
     values.append(&mut more)?;
     let spelled = spelled_text(alloc, tree)?;
     let spelled = spelled.as_str();
-    let mut last = rewrite_actions(alloc, subject, at, place, text, SPELL, printed, spelled)?;
+    let mut last = rewrite_actions(alloc, target, SPELL, printed, spelled)?;
     values.append(&mut last)?;
     Ok(values)
 }
 
-/// Makes the actions for the text of the filterset at a position.
-fn text_actions(
-    alloc: Global,
-    subject: &Subject<'_>,
-    at: usize,
-    place: FilePlace<'_>,
-    text: &str,
-) -> Result<Vec<Value>, AllocError>
-    requires { at < length subject.now.content.entries.now }
-    ensures { IfOk result (λ values. TextActions (subject_row subject.now) at (placement_of place.entry) text.now
-        (map view values.items)) }
+/// Makes the actions for the text of a filterset.
+fn text_actions(alloc: Global, target: &Target<'_>) -> Result<Vec<Value>, AllocError>
+    ensures { IfOk result (λ values. TextActions (target_row target.now) (map view values.items)) }
 {
-    match read_text(alloc, text)? {
-        Ok(tree) => tree_actions(alloc, subject, at, place, text, &tree),
-        Err(TextRefusal::Found(faults)) => {
-            mending_actions(alloc, subject, at, place, text, faults.as_slice())
-        }
+    match read_text(alloc, target.text)? {
+        Ok(tree) => tree_actions(alloc, target, &tree),
+        Err(TextRefusal::Found(faults)) => mending_actions(alloc, target, faults.as_slice()),
         Err(TextRefusal::TooDeep(_)) => Ok(Vec::new(alloc)),
     }
 }
@@ -217,8 +214,15 @@ fn entry_actions(
     let Some(place) = entry.place else {
         return Ok(Vec::new(alloc));
     };
+    let text = entry.text;
+    let target = Target {
+        subject,
+        at,
+        place,
+        text,
+    };
     if meets(subject, stretch_span(stretch_at(place.spot))) {
-        text_actions(alloc, subject, at, place, entry.text)
+        text_actions(alloc, &target)
     } else {
         Ok(Vec::new(alloc))
     }

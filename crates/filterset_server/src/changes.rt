@@ -1,17 +1,50 @@
-//! Whether a change of a file gives a filterset a new text, and changes no other.
-ghost use Rattle.std.specs.Prelude.{◌≡◌, ◌<◌, IfOk, length, map, slice_set};
+//! Changes of files that give filtersets new texts, and the actions that make them.
+ghost use Rattle.std.specs.Prelude.{◌≡◌, ◌<◌, IfOk, length, map, option_map, slice_set, string_bytes};
+ghost use Rattle.serde_json.specs.View.{view};
 ghost use Rattle.filterset_entries.specs.{Checked.text_row, Placements.spot_of};
-ghost use Rattle.filterset_server.specs.Changes.{Gets, IsChosen, IsTried, texts_of};
-ghost use Rattle.filterset_server.specs.{Proposals.proposal_row, Subjects.subject_row};
+ghost use Rattle.filterset_documents.specs.Filtersets.{stretch_span};
+ghost use Rattle.filterset_server.specs.Actions.{IsChosen, IsTried};
+ghost use Rattle.filterset_server.specs.Changes.{changed_span, changed_text, texts_of};
+ghost use Rattle.filterset_server.specs.Subjects.{proposal_row, target_row};
 
-use crate::edits::change_for;
-use crate::proposals::Proposal;
-use crate::subject::Subject;
-use filterset_documents::becomes;
+use crate::subject::Proposal;
+use crate::target::Target;
+use crate::values::{action_value, mended};
+use filterset_documents::{becomes, escape, quote, range_of, span_in, stretch_span};
 use filterset_editor::{Change, change_text};
-use filterset_entries::{FilePlace, TextEntry};
+use filterset_entries::{FilePlace, Spot, TextEntry};
+use filterset_faults::SourceSpan;
+use serde_json::Value;
 use std::alloc::{AllocError, Global};
 use std::slice;
+
+/// Returns the span of the file that a proposal replaces.
+fn changed_span(place: FilePlace<'_>, proposal: &Proposal) -> SourceSpan
+    ensures { result ≡ changed_span (spot_of place.entry.spot) proposal.now.fault (stretch_span proposal.now.repair.edit.at) }
+{
+    match (place.spot, proposal.fault) {
+        (Spot::Literal(found), None) => stretch_span(found.literal),
+        _ => span_in(place, stretch_span(proposal.repair.edit.at)),
+    }
+}
+
+/// Makes what a proposal writes into a file: with or without escapes, as a string of TOML if it writes the whole filterset anew.
+fn changed_text(
+    alloc: Global,
+    place: FilePlace<'_>,
+    proposal: &Proposal,
+    is_basic: bool,
+) -> Result<String, AllocError>
+    ensures { IfOk result (λ made. string_bytes made
+        ≡ changed_text is_basic (spot_of place.entry.spot) proposal.now.fault (string_bytes proposal.now.repair.edit.text)) }
+{
+    let text = proposal.repair.edit.text.as_str();
+    match (place.spot, proposal.fault) {
+        (Spot::Literal(_), None) => quote(alloc, is_basic, text),
+        (Spot::Literal(_), Some(_)) if is_basic => escape(alloc, text),
+        _ => String::from_str(alloc, text),
+    }
+}
 
 /// Lists the texts of filtersets of which the one at a position gets another.
 fn list_changed<'t>(
@@ -32,60 +65,48 @@ fn list_changed<'t>(
     Ok(texts)
 }
 
-/// Makes a change, and returns whether it gives the filterset at a position a text, and changes no other.
-fn gives(
+/// Makes the action by which a filterset gets a text, with or without escapes, if its change does so and changes no other.
+fn try_action(
     alloc: Global,
-    subject: &Subject<'_>,
-    at: usize,
-    new: &str,
-    change: &Change,
-) -> Result<bool, AllocError>
-    requires { at < length subject.now.content.entries.now }
-    ensures { IfOk result (Gets (subject_row subject.now) at new.now change.now) }
-{
-    let shown = subject.shown;
-    let changes = slice::from_ref(change);
-    let after = change_text(alloc, shown.encoding, shown.lines.text, changes)?;
-    let texts = list_changed(alloc, subject.content.entries, at, new)?;
-    becomes(alloc, subject.content, texts.as_slice(), after.as_str())
-}
-
-/// Makes the change by which the filterset at a position gets a text, if it does so and changes no other.
-fn try_change(
-    alloc: Global,
-    subject: &Subject<'_>,
-    at: usize,
-    place: FilePlace<'_>,
+    target: &Target<'_>,
     proposal: &Proposal,
     new: &str,
     is_basic: bool,
-) -> Result<Option<Change>, AllocError>
-    requires { at < length subject.now.content.entries.now }
-    ensures { IfOk result (IsTried (subject_row subject.now) at (spot_of place.entry.spot) (proposal_row proposal.now) new.now
-        is_basic) }
+) -> Result<Option<Value>, AllocError>
+    ensures { IfOk result (λ o. IsTried (target_row target.now) (proposal_row proposal.now) new.now is_basic (option_map view o)) }
 {
-    let change = change_for(alloc, subject, place, proposal, is_basic)?;
-    if gives(alloc, subject, at, new, &change)? {
-        Ok(Some(change))
+    let subject = target.subject;
+    let shown = subject.shown;
+    let range = range_of(shown, changed_span(target.place, proposal));
+    let text = changed_text(alloc, target.place, proposal, is_basic)?;
+    let change = Change {
+        range: Some(range),
+        text,
+    };
+    let changes = slice::from_ref(&change);
+    let after = change_text(alloc, shown.encoding, shown.lines.text, changes)?;
+    let texts = list_changed(alloc, subject.content.entries, target.at, new)?;
+    if becomes(alloc, subject.content, texts.as_slice(), after.as_str())? {
+        let diagnostics = mended(alloc, target, proposal.fault)?;
+        let text = change.text.as_str();
+        let action = action_value(alloc, target, proposal, diagnostics, range, text)?;
+        Ok(Some(action))
     } else {
         Ok(None)
     }
 }
 
-/// Chooses the change by which the filterset at a position gets a text: without escapes, or else with them.
-pub fn choose_change(
+/// Chooses the action by which a filterset gets a text: without escapes, or else with them.
+pub fn choose_action(
     alloc: Global,
-    subject: &Subject<'_>,
-    at: usize,
-    place: FilePlace<'_>,
+    target: &Target<'_>,
     proposal: &Proposal,
     new: &str,
-) -> Result<Option<Change>, AllocError>
-    requires { at < length subject.now.content.entries.now }
-    ensures { IfOk result (IsChosen (subject_row subject.now) at (spot_of place.entry.spot) (proposal_row proposal.now) new.now) }
+) -> Result<Option<Value>, AllocError>
+    ensures { IfOk result (λ o. IsChosen (target_row target.now) (proposal_row proposal.now) new.now (option_map view o)) }
 {
-    match try_change(alloc, subject, at, place, proposal, new, false)? {
-        Some(change) => Ok(Some(change)),
-        None => try_change(alloc, subject, at, place, proposal, new, true),
+    match try_action(alloc, target, proposal, new, false)? {
+        Some(action) => Ok(Some(action)),
+        None => try_action(alloc, target, proposal, new, true),
     }
 }

@@ -2,7 +2,7 @@
 ghost use Rattle.std.specs.Prelude.{◌≡◌, IfOk, map};
 ghost use Rattle.serde_json.specs.View.{view};
 ghost use Rattle.filterset_entries.specs.Checked.{text_row};
-ghost use Rattle.filterset_server.specs.Folding.{AreFolds, fold_data, folds_of};
+ghost use Rattle.filterset_server.specs.Folding.{AreFolds, folds_of};
 
 use filterset_documents::{Shown, place_span, range_of};
 use filterset_editor::Range;
@@ -10,20 +10,14 @@ use filterset_entries::TextEntry;
 use serde_json::{Value, json};
 use std::alloc::{AllocError, Global};
 
-/// Makes the value of the lines of a range.
-fn fold_value(alloc: Global, range: Range) -> Result<Value, AllocError>
-    ensures { IfOk result (λ value. view value ≡ fold_data range) }
-{
-    json!(in alloc; { "endLine": range.end.line, "startLine": range.start.line })
-}
-
 /// Makes what is folded of a range: it, if it goes over several lines.
 fn folds_of(alloc: Global, range: Range) -> Result<Vec<Value>, AllocError>
     ensures { IfOk result (λ values. map view values.items ≡ folds_of range) }
 {
+    let Range { start, end } = range;
     let mut values = Vec::new(alloc);
-    if range.start.line < range.end.line {
-        values.push(fold_value(alloc, range)?)?;
+    if start.line < end.line {
+        values.push(json!(in alloc; { "endLine": end.line, "startLine": start.line })?)?;
     }
     Ok(values)
 }

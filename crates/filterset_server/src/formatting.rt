@@ -1,9 +1,9 @@
 //! How filtersets are formatted.
-ghost use Rattle.std.specs.{Prelude.◌≡◌, Prelude.IfOk, Prelude.length, Prelude.map, Prelude.string_bytes, List.AllZip};
+ghost use Rattle.std.specs.{Prelude.IfOk, Prelude.map, Prelude.string_bytes, List.AllZip};
 ghost use Rattle.serde_json.specs.View.{view};
 ghost use Rattle.filterset_entries.specs.Checked.{text_row};
 ghost use Rattle.filterset_documents.specs.Contents.{content_row};
-ghost use Rattle.filterset_server.specs.Formatting.{FormatsContent, IsFormatted, RewritesContent};
+ghost use Rattle.filterset_server.specs.Formatting.{FormatsContent, IsFormatted};
 
 use filterset_documents::{
     Content, Shown, becomes, edit_text, edits_value, list_strings, ordered_edits, parse_text,
@@ -37,30 +37,8 @@ fn format_entries(alloc: Global, entries: &[TextEntry<'_>]) -> Result<Vec<String
     Ok(texts)
 }
 
-/// Makes the edits by which the filtersets of a document get these texts. Returns `null` if they can't be made, or if the document
-/// would not hold the same with them, but for the texts.
-fn rewrite_content(
-    alloc: Global,
-    shown: &Shown<'_>,
-    content: Content<'_, '_>,
-    texts: &[&str],
-) -> Result<Value, AllocError>
-    requires { length texts.now ≡ length content.entries.now }
-    ensures { IfOk result (λ value. RewritesContent shown.now.encoding shown.now.lines.text.now (content_row content.entry)
-        (map (λ t. t.now) texts.now) (view value)) }
-{
-    let edits = ordered_edits(alloc, content.entries, texts)?;
-    let Some(edited) = edit_text(alloc, shown.lines.text, edits.as_slice())? else {
-        return Ok(Value::Null);
-    };
-    if becomes(alloc, content, texts, edited.as_str())? {
-        edits_value(alloc, shown, edits.as_slice())
-    } else {
-        Ok(Value::Null)
-    }
-}
-
-/// Makes the edits that format the filtersets of a document, or `null` if these can't be made.
+/// Makes the edits that format the filtersets of a document. Returns `null` if they can't be made, or if the document would not
+/// hold the same with them, but for the texts.
 pub fn format_content(
     alloc: Global,
     shown: &Shown<'_>,
@@ -71,5 +49,15 @@ pub fn format_content(
 {
     let strings = format_entries(alloc, content.entries)?;
     let texts = list_strings(alloc, strings.as_slice())?;
-    rewrite_content(alloc, shown, content, texts.as_slice())
+    let texts = texts.as_slice();
+    let edits = ordered_edits(alloc, content.entries, texts)?;
+    let edits = edits.as_slice();
+    let Some(edited) = edit_text(alloc, shown.lines.text, edits)? else {
+        return Ok(Value::Null);
+    };
+    if becomes(alloc, content, texts, edited.as_str())? {
+        edits_value(alloc, shown, edits)
+    } else {
+        Ok(Value::Null)
+    }
 }

@@ -2,9 +2,9 @@
 ghost use Rattle.std.specs.Prelude.{◌≡◌, IfOk, map, option_map};
 ghost use Rattle.serde_json.specs.View.{view};
 ghost use Rattle.filterset_entries.specs.{Checked.text_row, Placements.placement_of};
-ghost use Rattle.filterset_language.specs.Views.{leaf_of, tree_of};
+ghost use Rattle.filterset_language.specs.Views.{leaf_of};
 ghost use Rattle.filterset_names.specs.Workspaces.{known_of};
-ghost use Rattle.filterset_server.specs.Hover.{HoversLeaf, HoversRow, HoversRows, HoversTree, hover_data, is_leaf_at, leaf_part};
+ghost use Rattle.filterset_server.specs.Hover.{HoversLeaf, HoversRow, HoversRows, hover_data, is_leaf_at, leaf_part};
 
 use crate::matches::leaf_matches;
 use crate::words::leaf_text;
@@ -12,7 +12,7 @@ use filterset_documents::{Shown, entry_at, is_in, leaf_span, parse_text, span_va
 use filterset_drawing::FileSpan;
 use filterset_editor::Position;
 use filterset_entries::{FilePlace, TextEntry, file_part};
-use filterset_language::{ParsedExpr, ParsedLeaf};
+use filterset_language::ParsedLeaf;
 use filterset_names::Workspace;
 use serde_json::{Value, json};
 use std::alloc::{AllocError, Global};
@@ -62,26 +62,7 @@ fn hover_leaf(
     hover_value(alloc, text.as_str(), range)
 }
 
-/// Makes the hover of the first predicate at this offset of the file, in the tree of a text at this place.
-fn hover_tree(
-    alloc: Global,
-    workspace: Option<Workspace<'_>>,
-    shown: &Shown<'_>,
-    place: Option<FilePlace<'_>>,
-    offset: usize,
-    tree: &ParsedExpr,
-) -> Result<Value, AllocError>
-    ensures { IfOk result (λ value. HoversTree (known_of workspace.entry) shown.now.encoding shown.now.lines.text.now
-        (option_map placement_of place.entry) offset (tree_of tree.now) (view value)) }
-{
-    let leaves = tree.leaves_where(alloc, |leaf| is_leaf_at(place, offset, leaf))?;
-    match leaves.first() {
-        Some(leaf) => hover_leaf(alloc, workspace, shown, place, leaf),
-        None => Ok(Value::Null),
-    }
-}
-
-/// Makes the hover of a filterset that is at this offset of the file.
+/// Makes the hover of a filterset that is at this offset of the file: that of its first predicate there.
 fn hover_entry(
     alloc: Global,
     workspace: Option<Workspace<'_>>,
@@ -90,11 +71,14 @@ fn hover_entry(
     entry: &TextEntry<'_>,
 ) -> Result<Value, AllocError>
     ensures { IfOk result (λ value. HoversRow (known_of workspace.entry) shown.now.encoding shown.now.lines.text.now offset
-        (text_row entry.now)
-        (view value)) }
+        (text_row entry.now) (view value)) }
 {
-    match parse_text(alloc, entry.text)? {
-        Some(tree) => hover_tree(alloc, workspace, shown, entry.place, offset, &tree),
+    let Some(tree) = parse_text(alloc, entry.text)? else {
+        return Ok(Value::Null);
+    };
+    let leaves = tree.leaves_where(alloc, |leaf| is_leaf_at(entry.place, offset, leaf))?;
+    match leaves.first() {
+        Some(leaf) => hover_leaf(alloc, workspace, shown, entry.place, leaf),
         None => Ok(Value::Null),
     }
 }

@@ -4,20 +4,17 @@
 #![tactic(auto)]
 
 mod actions;
-mod calls;
 mod changes;
-mod edits;
 mod folding;
 mod formatting;
 mod highlighting;
 mod hover;
 mod matches;
 mod mending;
-mod proposals;
 mod repairs;
-mod spelling;
 mod subject;
 mod symbols;
+mod target;
 mod unmatched;
 mod values;
 mod words;

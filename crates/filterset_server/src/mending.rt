@@ -1,31 +1,13 @@
-//! Texts with edits, and whether these mend them.
+//! Texts with edits that mend them.
 ghost use Rattle.std.specs.{Prelude.◌≡◌, Prelude.IfOk, Prelude.option_map, Prelude.string_bytes, List.list_any};
 ghost use Rattle.filterset_documents.specs.Edits.{edit_row};
-ghost use Rattle.filterset_server.specs.Mending.{IsApplied, IsClear, IsMending, begins_in};
+ghost use Rattle.filterset_server.specs.Mending.{IsClear, IsMending, begins_in};
 
-use filterset_configuration::Stretch;
-use filterset_documents::Edit;
+use filterset_documents::{Edit, edit_text};
 use filterset_faults::ParseSingleError;
 use filterset_rewriting::{TextRefusal, read_text};
 use std::alloc::{AllocError, Global};
-
-/// Makes a text with an edit. Returns `None` if the edit begins or ends in a character.
-fn apply(alloc: Global, text: &str, edit: &Edit) -> Result<Option<String>, AllocError>
-    ensures { IfOk result (λ o. IsApplied text.now (edit_row edit.now) (option_map (λ s. string_bytes s) o)) }
-{
-    let Stretch { from, to } = edit.at;
-    if to < from {
-        return Ok(None);
-    }
-    let Some((front, _)) = text.split_at_checked(from) else {
-        return Ok(None);
-    };
-    let Some((_, back)) = text.split_at_checked(to) else {
-        return Ok(None);
-    };
-    let word = edit.text.as_str();
-    Ok(Some(format!(in alloc; "{front}{word}{back}")?))
-}
+use std::slice;
 
 /// Returns whether a fault begins in a stretch of this length from an offset on.
 fn begins_in(fault: &ParseSingleError, from: usize, len: usize) -> bool
@@ -59,7 +41,7 @@ fn is_clear(alloc: Global, text: &str, from: usize, len: usize) -> Result<bool, 
 pub fn mend(alloc: Global, text: &str, edit: &Edit) -> Result<Option<String>, AllocError>
     ensures { IfOk result (λ o. IsMending text.now (edit_row edit.now) (option_map (λ s. string_bytes s) o)) }
 {
-    let Some(new) = apply(alloc, text, edit)? else {
+    let Some(new) = edit_text(alloc, text, slice::from_ref(edit))? else {
         return Ok(None);
     };
     if is_clear(alloc, new.as_str(), edit.at.from, edit.text.len())? {

@@ -1,12 +1,14 @@
 //! How what faults are about may be written instead.
 ghost use Rattle.std.specs.Prelude.{◌≡◌, IfOk, option_map, slice_index, string_bytes};
-ghost use Rattle.filterset_server.specs.Repairs as spec;
-ghost use Rattle.filterset_server.specs.Repairs.{IsRepairOf, gap_beside, repair_row, spaced, stretch_in};
+ghost use Rattle.filterset_grammar.specs.Printing.{printed};
+ghost use Rattle.filterset_language.specs.Views.{tree_of};
+ghost use Rattle.filterset_server.specs.Repairs.{IsCallRepair, IsRepairOf, call_text, gap_beside, is_blank, repair_row, reworded, spaced, stretch_in};
 
-use crate::calls::repair_call;
 use filterset_configuration::Stretch;
 use filterset_documents::Edit;
 use filterset_faults::{ParseSingleError, SourceSpan};
+use filterset_language::ParsedExpr;
+use filterset_rewriting::{Front, read_call};
 use std::alloc::{AllocError, Global};
 
 /// An edit of a filterset's text, and what it is called.
@@ -16,25 +18,21 @@ pub struct Repair {
     pub edit: Edit,
 }
 
-/// Returns what is put between a word and this byte, which is 0 where the text ends.
-fn gap_beside(byte: u8) -> &'static str
-    ensures { result.now ≡ gap_beside byte }
+/// Returns what is put between a word and the byte at an offset, which is 0 where the text ends.
+fn gap_beside(text: &[u8], at: usize) -> &'static str
+    ensures { result.now ≡ gap_beside (slice_index text.now at) }
 {
-    match byte {
+    if at >= text.len() {
+        return "";
+    }
+    match text[at] {
         0 | b'\n' | b'\r' | b' ' => "",
         _ => " ",
     }
 }
 
-/// Returns the byte at an offset, or 0 after the end.
-fn byte_at(text: &[u8], at: usize) -> u8
-    ensures { result ≡ slice_index text.now at }
-{
-    if at < text.len() { text[at] } else { 0 }
-}
-
 /// Returns the stretch of a text at a span. It ends with the text if that ends first.
-pub fn stretch_in(text: &str, span: SourceSpan) -> Stretch
+fn stretch_in(text: &str, span: SourceSpan) -> Stretch
     ensures { result ≡ stretch_in text.now span }
 {
     Stretch {
@@ -43,44 +41,64 @@ pub fn stretch_in(text: &str, span: SourceSpan) -> Stretch
     }
 }
 
-/// Makes a word with blanks around it, as far as the text has none beside the stretch.
-fn spaced(alloc: Global, text: &str, at: Stretch, word: &str) -> Result<String, AllocError>
-    ensures { IfOk result (λ made. string_bytes made ≡ spaced text.now at word.now) }
+/// Makes a word with blanks around it, as far as the text has none beside the span.
+fn spaced(alloc: Global, text: &str, span: SourceSpan, word: &str) -> Result<String, AllocError>
+    ensures { IfOk result (λ made. string_bytes made ≡ spaced text.now (stretch_in text.now span) word.now) }
 {
-    let bytes = text.as_bytes();
-    let before = gap_beside(byte_at(bytes, at.from.saturating_sub(1)));
-    let behind = gap_beside(byte_at(bytes, at.to));
+    let Stretch { from, to } = stretch_in(text, span);
+    let before = gap_beside(text.as_bytes(), from.saturating_sub(1));
+    let behind = gap_beside(text.as_bytes(), to);
     format!(in alloc; "{before}{word}{behind}")
 }
 
-/// Makes the repair that puts an operator in place of another.
-fn respell(
-    alloc: Global,
-    title: &'static str,
-    text: &str,
-    span: SourceSpan,
-    word: &str,
-) -> Result<Option<Repair>, AllocError>
-    ensures { IfOk result (λ o. option_map repair_row o ≡ spec.respelt title.now text.now span word.now) }
+/// Returns the repair that puts a word in place of a span.
+fn reword(title: &'static str, text: &str, span: SourceSpan, word: String) -> Option<Repair>
+    ensures { option_map repair_row result ≡ reworded title.now text.now span (string_bytes word) }
 {
     let at = stretch_in(text, span);
-    let text = spaced(alloc, text, at, word)?;
-    let edit = Edit { at, text };
-    Ok(Some(Repair { title, edit }))
+    let edit = Edit { at, text: word };
+    Some(Repair { title, edit })
 }
 
-/// Makes the repair that puts a word in place of a span.
-fn reword(
-    alloc: Global,
-    title: &'static str,
-    text: &str,
-    span: SourceSpan,
-    word: &str,
-) -> Result<Option<Repair>, AllocError>
-    ensures { IfOk result (λ o. option_map repair_row o ≡ spec.reworded title.now text.now span word.now) }
+/// Returns whether a text has only white space.
+fn is_blank(text: &str) -> bool
+    ensures { result ≡ is_blank text.now }
 {
-    let at = stretch_in(text, span);
-    let text = String::from_str(alloc, word)?;
+    text.trim_start().is_empty()
+}
+
+/// Makes what is meant, in parentheses unless there is nothing before and after it.
+fn call_text(
+    alloc: Global,
+    front: &str,
+    meant: &ParsedExpr,
+    behind: &str,
+) -> Result<String, AllocError>
+    ensures { IfOk result (λ made. string_bytes made ≡ call_text front.now (printed (tree_of meant.now)) behind.now) }
+{
+    if is_blank(front) && is_blank(behind) {
+        format!(in alloc; "{meant}")
+    } else {
+        format!(in alloc; "({meant})")
+    }
+}
+
+/// Makes the repair that puts the operator at a span between its operands, which follow it.
+fn repair_call(alloc: Global, text: &str, span: SourceSpan) -> Result<Option<Repair>, AllocError>
+    ensures { IfOk result (λ o. IsCallRepair text.now span (option_map repair_row o)) }
+{
+    let Some((front, call)) = text.split_at_checked(span.offset()) else {
+        return Ok(None);
+    };
+    let Some(Front { tree, behind }) = read_call(alloc, call)? else {
+        return Ok(None);
+    };
+    let at = Stretch {
+        from: span.offset(),
+        to: text.len().saturating_sub(behind.len()),
+    };
+    let text = call_text(alloc, front, &tree, behind)?;
+    let title = "Write the operator between its operands";
     let edit = Edit { at, text };
     Ok(Some(Repair { title, edit }))
 }
@@ -95,18 +113,22 @@ pub fn repair_of(
 {
     match fault {
         ParseSingleError::InvalidAndOperator(span) => {
-            respell(alloc, "Write `and`", text, *span, "and")
+            let word = spaced(alloc, text, *span, "and")?;
+            Ok(reword("Write `and`", text, *span, word))
         }
         ParseSingleError::InvalidOrOperator(span) => {
-            respell(alloc, "Write `or`", text, *span, "or")
+            let word = spaced(alloc, text, *span, "or")?;
+            Ok(reword("Write `or`", text, *span, word))
         }
         ParseSingleError::ExprFoundUnaryOp { span, .. } => {
-            reword(alloc, "Write `not`", text, *span, "not")
+            let word = String::from_str(alloc, "not")?;
+            Ok(reword("Write `not`", text, *span, word))
         }
         ParseSingleError::ExprFoundBinaryOp { span, .. } => repair_call(alloc, text, *span),
         ParseSingleError::InvalidEscapeCharacter(span) => {
             let backslash = SourceSpan::new(span.offset(), 1);
-            reword(alloc, "Escape the backslash", text, backslash, "\\\\")
+            let word = String::from_str(alloc, "\\\\")?;
+            Ok(reword("Escape the backslash", text, backslash, word))
         }
         _ => Ok(None),
     }

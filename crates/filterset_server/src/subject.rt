@@ -1,9 +1,10 @@
-//! The document whose filtersets may be changed.
+//! The document whose filtersets may be changed, and what may be done with one.
 ghost use Rattle.std.specs.Prelude.{◌≡◌};
 ghost use Rattle.filterset_server.specs.Subjects.{meets, subject_row};
 
+use crate::repairs::Repair;
 use filterset_documents::{Content, Shown};
-use filterset_faults::SourceSpan;
+use filterset_faults::{ParseSingleError, SourceSpan};
 
 /// A document, and the offsets between which it is asked about.
 #[derive(Clone, Copy, Debug)]
@@ -13,6 +14,13 @@ pub struct Subject<'d> {
     pub from: usize,
     pub to: usize,
     pub content: Content<'d, 'd>,
+}
+
+/// An edit of a filterset's text, and the fault that it mends. Without one it writes the whole filterset anew.
+#[derive(Debug, Drop)]
+pub struct Proposal {
+    pub fault: Option<ParseSingleError>,
+    pub repair: Repair,
 }
 
 /// Returns whether a span of the file is in what is asked about, or touches that.

@@ -5,7 +5,7 @@ ghost use Rattle.filterset_entries.specs.{Checked.text_row, Placements.placement
 ghost use Rattle.filterset_documents.specs.Joins.{Joins};
 ghost use Rattle.filterset_language.specs.Views.{leaf_of};
 ghost use Rattle.filterset_names.specs.Workspaces.{known_of, workspace_row};
-ghost use Rattle.filterset_server.specs.Unmatched.{LeafWarnings, RowWarnings, RowsWarnings, WarnsOfLeaf, has_part, is_skipped, skipped_for};
+ghost use Rattle.filterset_server.specs.Unmatched.{LeafWarnings, RowWarnings, RowsWarnings, WarnsOfLeaf, is_skipped, skipped_for};
 
 use crate::hover::leaf_part;
 use filterset_documents::{Shown, diagnostic_at, parse_text};
@@ -23,7 +23,7 @@ const CODE: &str = "NoTestMatch";
 
 /// Returns whether nextest did not list the tests of a binary.
 fn is_skipped(suite: &Suite) -> bool
-    ensures { result ≡ is_skipped suite.now }
+    ensures { result ≡ is_skipped suite.now.status }
 {
     match suite.status {
         SuiteStatus::Listed => false,
@@ -31,19 +31,12 @@ fn is_skipped(suite: &Suite) -> bool
     }
 }
 
-/// Returns of how many binaries nextest did not list the tests.
-fn count_skipped(suites: &[Suite]) -> usize
-    ensures { result ≡ count_by is_skipped suites.now }
-{
-    suites.iter().filter(|suite| is_skipped(suite)).count()
-}
-
 /// A workspace whose predicates are asked about, and of how many binaries nextest did not list the tests.
 #[derive(Debug, Drop)]
 struct Asked<'w> {
     index: WorkspaceIndex<'w>,
     skipped: usize,
-    ghost counted: { skipped ≡ count_by is_skipped index.workspace.suites.now },
+    ghost counted: { skipped ≡ count_by (λ suite. is_skipped suite.status) index.workspace.suites.now },
 }
 
 /// Returns how many of the skipped binaries may have a test that a predicate matches.
@@ -94,34 +87,7 @@ fn leaf_warnings(
     warn_leaf(alloc, shown, place, UnmatchedPredicate { leaf, skipped })
 }
 
-/// Returns whether a predicate of a text at this place has a span in the file.
-fn has_part(place: Option<FilePlace<'_>>, leaf: &ParsedLeaf) -> bool
-    ensures { result ≡ has_part (option_map placement_of place.entry) (leaf_of leaf.now) }
-{
-    leaf_part(place, leaf).is_some()
-}
-
-/// Makes the warnings of predicates of a text at this place, one after the other.
-fn warn_leaves(
-    alloc: Global,
-    asked: &Asked<'_>,
-    shown: &Shown<'_>,
-    place: Option<FilePlace<'_>>,
-    leaves: &[&ParsedLeaf],
-) -> Result<Vec<Value>, AllocError>
-    ensures { IfOk result (λ values. Joins (LeafWarnings (workspace_row asked.now.index.workspace) shown.now.encoding
-        shown.now.lines.text.now (option_map placement_of place.entry)) (map (λ leaf. leaf_of leaf.now) leaves.now)
-        (map view values.items)) }
-{
-    let mut values = Vec::new(alloc);
-    for leaf in leaves {
-        let mut more = leaf_warnings(alloc, asked, shown, place, leaf)?;
-        values.append(&mut more)?;
-    }
-    Ok(values)
-}
-
-/// Makes the warnings of a filterset.
+/// Makes the warnings of a filterset: those of its predicates that have a span in the file, one after the other.
 fn entry_warnings(
     alloc: Global,
     asked: &Asked<'_>,
@@ -131,11 +97,17 @@ fn entry_warnings(
     ensures { IfOk result (λ values. RowWarnings (workspace_row asked.now.index.workspace) shown.now.encoding shown.now.lines.text.now
         (text_row entry.now) (map view values.items)) }
 {
+    let mut values = Vec::new(alloc);
     let Some(tree) = parse_text(alloc, entry.text)? else {
-        return Ok(Vec::new(alloc));
+        return Ok(values);
     };
-    let leaves = tree.leaves_where(alloc, |leaf| has_part(entry.place, leaf))?;
-    warn_leaves(alloc, asked, shown, entry.place, leaves.as_slice())
+    let leaves = tree.leaves_where(alloc, |leaf| leaf_part(entry.place, leaf).is_some())?;
+    let leaves = leaves.as_slice();
+    for leaf in leaves {
+        let mut more = leaf_warnings(alloc, asked, shown, entry.place, leaf)?;
+        values.append(&mut more)?;
+    }
+    Ok(values)
 }
 
 /// Makes the warnings of filtersets in a workspace that is prepared, one after the other.
@@ -170,7 +142,8 @@ pub fn warn_entries(
         return Ok(Vec::new(alloc));
     };
     let index = WorkspaceIndex::new(alloc, workspace)?;
-    let skipped = count_skipped(index.workspace.suites);
+    let suites = index.workspace.suites;
+    let skipped = suites.iter().filter(|suite| is_skipped(suite)).count();
     let asked = Asked { index, skipped };
     warn_each(alloc, &asked, shown, entries)
 }

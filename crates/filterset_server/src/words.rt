@@ -1,5 +1,5 @@
 //! What predicates mean, in words, as Markdown.
-ghost use Rattle.std.specs.Prelude.{◌≡◌, ◌++◌, ◌==◌, IfOk, slice_index, string_bytes};
+ghost use Rattle.std.specs.Prelude.{◌≡◌, ◌++◌, IfOk, string_bytes};
 ghost use Rattle.filterset_language.specs.Views.{leaf_of};
 ghost use Rattle.filterset_matchers.specs.Matchers.{matcher_of};
 ghost use Rattle.filterset_server.specs.Words.{backticks, code_span, leaf_text, leaf_words, margin, matcher_words, matching_words, words_before, words_behind};
@@ -21,18 +21,11 @@ fn backticks_of(alloc: Global, text: &[u8]) -> Result<String, AllocError>
     Ok(ticks)
 }
 
-/// Returns whether a text begins with a blank.
-fn begins_blank(text: &[u8]) -> bool
-    ensures { result ≡ (slice_index text.now 0 == 32) }
-{
-    !text.is_empty() && text[0] == b' '
-}
-
 /// Returns what is between a text and the delimiters of its code span.
-fn margin_of(ticks: &str, text: &str) -> &'static str
+fn margin_of(ticks: &str, text: &[u8]) -> &'static str
     ensures { result.now ≡ margin ticks.now text.now }
 {
-    if ticks.is_empty() && !begins_blank(text.as_bytes()) {
+    if ticks.is_empty() && (text.is_empty() || text[0] != b' ') {
         ""
     } else {
         " "
@@ -44,7 +37,7 @@ pub(crate) fn code_span(alloc: Global, text: &str) -> Result<String, AllocError>
     ensures { IfOk result (λ code. string_bytes code ≡ code_span text.now) }
 {
     let ticks = backticks_of(alloc, text.as_bytes())?;
-    let blank = margin_of(ticks.as_str(), text);
+    let blank = margin_of(ticks.as_str(), text.as_bytes());
     format!(in alloc; "`{ticks}{blank}{text}{blank}{ticks}`")
 }
 

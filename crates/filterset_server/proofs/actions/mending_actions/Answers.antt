@@ -1,8 +1,7 @@
 use Rattle.std.proofs.{Common.arith, Common.◌<◌, Common.length, lemmas.List.take_all}
 use Rattle.serde_json.specs.View.{view}
-use Rattle.filterset_entries.specs.Placements.{placement_of}
 use Rattle.filterset_documents.specs.Joins.{no_parts}
-use Rattle.filterset_server.specs.{Actions.FaultActions, Subjects.subject_row}
+use Rattle.filterset_server.specs.{Actions.FaultActions, Subjects.target_row}
 use Rattle.filterset_server.proofs.ActionLemmas.{Joins-next}
 use Rattle.filterset_server.proofs.actions.mending_actions.Goals as goal
 
@@ -20,5 +19,5 @@ loop-fault-preserved c =
     let i = c.loop-fault.fault-index in
     let lt : i < length faults = omega (arith, c.loop-fault-test.true) in
     rw c.in_ok-append.ensures.items
-    (Joins-next (FaultActions (subject_row c.args.subject.now) c.args.at (placement_of c.args.place) c.args.text.now) view faults i _
+    (Joins-next (FaultActions (target_row c.args.target.now)) view faults i _
     c.loop-fault.values.items c.in_ok-more.more.items lt c.loop-fault.invariant c.in_ok-more.ensures)

@@ -29,4 +29,4 @@ loop-entry-preserved c =
     let at : get_or entries i entry ≡ entry = search (rules, c.entry-item.is) in
     rw c.in_ok-append.ensures.items
     (Joins-rows (RowMarks shown.encoding shown.lines.text.now) text_row entries i entry
-    c.loop-entry.marks.items c.in_ok-more.more.items lt at c.loop-entry.invariant (c.in_ok-tokens.tokens.items, c.in_ok-tokens.ensures, rw c.as_slice.ensures.value at c.in_ok-more.ensures))
+    c.loop-entry.marks.items c.in_ok-more.more.items lt at c.loop-entry.invariant c.in_ok-more.ensures)

@@ -5,9 +5,9 @@ use Rattle.filterset_documents.specs.Joins.{Joins}
 use Rattle.filterset_language.specs.Views.{leaf_of}
 use Rattle.filterset_names.specs.Workspaces.{workspace_row}
 use Rattle.filterset_server.specs.Unmatched.{LeafWarnings}
-use Rattle.filterset_server.proofs.unmatched.warn_leaves.Given as goal
+use Rattle.filterset_server.proofs.unmatched.entry_warnings.Given as goal
 
 -- the predicates so far have their warnings
 abbrev pub invariant-loop-leaf : goal.invariant-loop-leaf
 invariant-loop-leaf l =
-    Joins (LeafWarnings (workspace_row l.asked.index.workspace) l.shown.encoding l.shown.lines.text.now (option_map placement_of l.place)) (map (λ leaf. leaf_of leaf.now) (take l.leaf-index l.leaves)) (map view l.values.items)
+    Joins (LeafWarnings (workspace_row l.asked.index.workspace) l.shown.encoding l.shown.lines.text.now (option_map placement_of l.entry.place)) (map (λ leaf. leaf_of leaf.now) (take l.leaf-index l.leaves)) (map view l.values.items)
