@@ -15,8 +15,7 @@ use Rattle.filterset_graph.specs.{Walks.Follows, Walks.IsMarked, declared.packag
 pub edge_link : (packages : List PackageMetadata) (positions : BTreeMap Text ℕ) (links : List (Vec ℕ Global)) → PositionsAre positions (ids packages) → AreRows positions packages links → (a b : ℕ) (x : Text) → HasEdge links a b → slice_get (ids packages) a ≡ Some x → (y : Text) × (slice_get (ids packages) b ≡ Some y) × IsLinked packages x y
 edge_link packages positions links placed rows a b x edge here =
     let from = element_from_mapped (λ (p : PackageMetadata). p.id) packages a x here in
-    let row = rows a from.0 edge.0 from.1 edge.1 in
-    let named = row_names (index_of positions) from.0.links.items edge.0.items row b edge.2 in
+    let named = row_names (index_of positions) from.0.links.items edge.0.items (rows a from.0 edge.0 from.1 edge.1) b edge.2 in
     (named.0, (placed named.0 b).0 named.2, (from.0, Contains-from_position packages from.0 a from.1, from.2, named.1))
 
 -- a link of the package at a position is an edge from there
@@ -24,10 +23,8 @@ pub link_edge : {packages : List PackageMetadata} {positions : BTreeMap Text ℕ
 link_edge {packages} {positions} {links} {back} index a x y link here =
     let at = position_from_Contains packages link.0 link.1 in
     let named : slice_get (ids packages) at.0 ≡ Some x = mapped_at (λ (p : PackageMetadata). p.id) packages at.0 link.0 at.1 ∙ ap Some link.2 in
-    let same : at.0 ≡ a = same_Some at.0 a (sym ((index.placed x at.0).1 named) ∙ (index.placed x a).1 here) in
-    let owner : slice_get packages a ≡ Some link.0 = ap (slice_get packages) (sym same) ∙ at.1 in
-    let within : a < length packages = slice_get_within packages a link.0 owner in
-    let row = element_at links a (omega (arith, within, index.size)) in
+    let owner : slice_get packages a ≡ Some link.0 = ap (slice_get packages) (sym (same_Some at.0 a (sym ((index.placed x at.0).1 named) ∙ (index.placed x a).1 here))) ∙ at.1 in
+    let row = element_at links a (omega (arith, slice_get_within packages a link.0 owner, index.size)) in
     let found = row_has (index_of positions) link.0.links.items row.0.items (index.rows a link.0 row.0 owner row.1) y link.3 in
     (found.0, (index.placed y found.0).0 found.2, (row.0, row.1, found.1))
 
@@ -52,11 +49,9 @@ Walk-reversed forth back turns a (next ∷ rest) b walk = Walk-push back b next 
 
 pub rows_stay_below : (packages : List PackageMetadata) (positions : BTreeMap Text ℕ) (links : List (Vec ℕ Global)) → PositionsAre positions (ids packages) → AreRows positions packages links → length links ≡ length packages → EdgesStayBelow (length links) links
 rows_stay_below packages positions links placed rows size a b edge =
-    let start : a < length links = slice_get_within links a edge.0 edge.1 in
-    let x = element_at (ids packages) a (rw length-map (omega (arith, start, size))) in
+    let x = element_at (ids packages) a (rw length-map (omega (arith, slice_get_within links a edge.0 edge.1, size))) in
     let y = edge_link packages positions links placed rows a b x.0 edge x.1 in
-    let within : b < length (ids packages) = slice_get_within (ids packages) b y.0 y.1 in
-    omega (arith, within, size, length-map packages (λ (p : PackageMetadata). p.id))
+    omega (arith, slice_get_within (ids packages) b y.0 y.1, size, length-map packages (λ (p : PackageMetadata). p.id))
 
 pub links_stay_below : {packages : List PackageMetadata} {positions : BTreeMap Text ℕ} {links back : List (Vec ℕ Global)} → IsIndexed packages positions links back → EdgesStayBelow (length links) links
 links_stay_below {packages} {positions} {links} index = rows_stay_below packages positions links index.placed index.rows index.size
@@ -64,16 +59,14 @@ links_stay_below {packages} {positions} {links} index = rows_stay_below packages
 pub back_stays_below : {packages : List PackageMetadata} {positions : BTreeMap Text ℕ} {links back : List (Vec ℕ Global)} → IsIndexed packages positions links back → EdgesStayBelow (length back) back
 back_stays_below {packages} {positions} {links} {back} index b a edge =
     let forth = (index.back_edges a b).0 edge in
-    let start : a < length links = slice_get_within links a forth.0 forth.1 in
-    omega (arith, start, index.size, index.back_size)
+    omega (arith, slice_get_within links a forth.0 forth.1, index.size, index.back_size)
 
 -- the marks that a search over the links leaves
 pub MarksReached-from_search : {packages : List PackageMetadata} {positions : BTreeMap Text ℕ} {links back : List (Vec ℕ Global)} → IsIndexed packages positions links back → (starts : List Bool) (marks : Vec Bool Global) → length starts ≡ length packages → ((k : ℕ) → IsMarked marks.items k ↔ IsReached links starts k) → MarksReached packages starts marks
 MarksReached-from_search {packages} {positions} {links} {back} index starts marks size exact id = (
   (λ m.
       let reached = (exact m.0).0 m.2 in
-      let within : reached.0 < length starts = slice_get_within starts reached.0 true reached.1 in
-      let x = element_at (ids packages) reached.0 (rw length-map (omega (arith, within, size))) in
+      let x = element_at (ids packages) reached.0 (rw length-map (omega (arith, slice_get_within starts reached.0 true reached.1, size))) in
       (x.0, (reached.0, x.1, reached.1), (Contains-from_position (ids packages) x.0 reached.0 x.1, walk_path index reached.0 reached.2.0 m.0 x.0 id reached.2.1 x.1 m.1))),
   (λ p.
       let walk = path_walk index p.1.0 p.0 p.2.1.0 id p.2.1.1 p.1.1 in
@@ -84,8 +77,7 @@ pub MarksReaching-from_search : {packages : List PackageMetadata} {positions : B
 MarksReaching-from_search {packages} {positions} {links} {back} index ends marks size exact id = (
   (λ m.
       let reached = (exact m.0).0 m.2 in
-      let within : reached.0 < length ends = slice_get_within ends reached.0 true reached.1 in
-      let x = element_at (ids packages) reached.0 (rw length-map (omega (arith, within, size))) in
+      let x = element_at (ids packages) reached.0 (rw length-map (omega (arith, slice_get_within ends reached.0 true reached.1, size))) in
       let forth = Walk-reversed back links (λ b a edge. (index.back_edges a b).0 edge) reached.0 reached.2.0 m.0 reached.2.1 in
       (x.0, (reached.0, x.1, reached.1), (Contains-from_position (ids packages) id m.0 m.1, walk_path index m.0 forth.0 reached.0 id x.0 forth.1 m.1 x.1))),
   (λ p.
@@ -113,17 +105,13 @@ IsOnlyPosition packages id position = (k : ℕ) → (◌≡◌ {A = Option ℕ} 
 pub reached_from_one : (packages : List PackageMetadata) (a b : Text) (from to : ℕ) (starts : List Bool) (marks : Vec Bool Global) (answer : Bool) → IsOnlyPosition packages a from → IsOnlyPosition packages b to → ((k : ℕ) → IsMarked starts k ↔ (k ≡ from)) → MarksReached packages starts marks → to < length marks.items → answer ≡ get_or marks.items to answer → IsTrue answer ↔ Path packages a b
 reached_from_one packages a b from to starts marks answer at_a at_b alone exact within read =
     let here : slice_get (ids packages) from ≡ Some a = (at_a from).0 refl in
-    let there : slice_get (ids packages) to ≡ Some b = (at_b to).0 refl in
     let stands : slice_get marks.items to ≡ Some answer = slice_get-get_or marks.items to answer within ∙ ap Some (sym read) in (
       (λ t.
-          let found = (exact b).0 (to, there, stands ∙ ap Some t) in
-          let same : found.1.0 ≡ from = (alone found.1.0).0 found.1.2 in
-          let start : found.0 ≡ a = same_Some found.0 a (sym found.1.1 ∙ ap (slice_get (ids packages)) same ∙ here) in
-          subst (λ (x : Text). Path packages x b) start found.2),
+          let found = (exact b).0 (to, (at_b to).0 refl, stands ∙ ap Some t) in
+          subst (λ (x : Text). Path packages x b) (same_Some found.0 a (sym found.1.1 ∙ ap (slice_get (ids packages)) ((alone found.1.0).0 found.1.2) ∙ here)) found.2),
       (λ path.
           let marked = (exact b).1 (a, (from, here, (alone from).1 refl), path) in
-          let same : to ≡ marked.0 = same_Some to marked.0 ((at_b marked.0).1 marked.1) in
-          same_Some answer true (sym stands ∙ ap (slice_get marks.items) same ∙ marked.2)),
+          same_Some answer true (sym stands ∙ ap (slice_get marks.items) (same_Some to marked.0 ((at_b marked.0).1 marked.1)) ∙ marked.2)),
     )
 
 -- a look-up that found no position, of an id that no package has
@@ -135,12 +123,10 @@ one_position packages id position only = Contains-from_position (ids packages) i
 
 pub one_position_within : (packages : List PackageMetadata) (id : Text) (position : ℕ) → IsOnlyPosition packages id position → position < length packages
 one_position_within packages id position only =
-    let within : position < length (ids packages) = slice_get_within (ids packages) position id ((only position).0 refl) in
-    omega (arith, within, length-map packages (λ (p : PackageMetadata). p.id))
+    omega (arith, slice_get_within (ids packages) position id ((only position).0 refl), length-map packages (λ (p : PackageMetadata). p.id))
 
 -- the package at the position of an id
 pub package_of_position : (packages : List PackageMetadata) (id : Text) (position : ℕ) (p : PackageMetadata) → IsOnlyPosition packages id position → p ≡ get_or packages position p → Contains packages p × (p.id ≡ id)
 package_of_position packages id position p only read =
-    let within : position < length packages = one_position_within packages id position only in
-    let at : slice_get packages position ≡ Some p = slice_get-get_or packages position p within ∙ ap Some (sym read) in
+    let at : slice_get packages position ≡ Some p = slice_get-get_or packages position p (one_position_within packages id position only) ∙ ap Some (sym read) in
     (Contains-from_position packages p position at, same_Some p.id id (sym (mapped_at (λ (q : PackageMetadata). q.id) packages position p at) ∙ (only position).0 refl))

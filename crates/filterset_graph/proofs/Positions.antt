@@ -30,13 +30,11 @@ mapped_at f xs k x e = grind (arith, common_steps, gets)
 pub row_names : {X : Type 0} (f : X → Option ℕ) (xs : List X) (row : List ℕ) → map f xs ≡ map Some row → (b : ℕ) → Contains row b → (x : X) × Contains xs x × (f x ≡ Some b)
 row_names f xs row e b c =
     let at = position_from_Contains row b c in
-    let there : slice_get (map f xs) at.0 ≡ Some (Some b) = ap (λ (l : List (Option ℕ)). slice_get l at.0) e ∙ mapped_at Some row at.0 b at.1 in
-    let found = element_from_mapped f xs at.0 (Some b) there in
+    let found = element_from_mapped f xs at.0 (Some b) (ap (λ (l : List (Option ℕ)). slice_get l at.0) e ∙ mapped_at Some row at.0 b at.1) in
     (found.0, Contains-from_position xs found.0 at.0 found.1, found.2)
 
 pub row_has : {X : Type 0} (f : X → Option ℕ) (xs : List X) (row : List ℕ) → map f xs ≡ map Some row → (x : X) → Contains xs x → (b : ℕ) × Contains row b × (f x ≡ Some b)
 row_has f xs row e x c =
     let at = position_from_Contains xs x c in
-    let there : slice_get (map Some row) at.0 ≡ Some (f x) = ap (λ (l : List (Option ℕ)). slice_get l at.0) (sym e) ∙ mapped_at f xs at.0 x at.1 in
-    let found = element_from_mapped Some row at.0 (f x) there in
+    let found = element_from_mapped Some row at.0 (f x) (ap (λ (l : List (Option ℕ)). slice_get l at.0) (sym e) ∙ mapped_at f xs at.0 x at.1) in
     (found.0, Contains-from_position row found.0 at.0 found.1, sym found.2)

@@ -1,5 +1,5 @@
 -- The steps that make the index.
-use Rattle.std.proofs.Common.{Vec, ◌≡◌, ◌+◌, ◌<◌, ◌≤◌, ◌↔◌, ◌⊎◌, inl, inr, ℕ, Bool, true, false, cond, List, [], ◌∷◌, ◌++◌, Option, Some, None, is_some, length, get_or, take, refl, sym, ◌∙◌, ap, subst, arith}
+use Rattle.std.proofs.Common.{Vec, ◌≡◌, ◌+◌, ◌<◌, ◌≤◌, ◌↔◌, ◌⊎◌, inl, inr, ℕ, Bool, true, false, cond, List, [], ◌∷◌, ◌++◌, Option, Some, None, is_some, length, get_or, take, sym, ◌∙◌, ap, subst, arith}
 use Rattle.std.specs.{Prelude.Contains, Prelude.All, Prelude.slice_get, Global.Global, BTreeMap.BTreeMap}
 use Rattle.std.specs.{Cmp.Lexicographic.slice_cmp, Ordering.is_eq, Ordering.nat_cmp, Str.bytes_eq}
 use Rattle.std.proofs.{Math.ListN.set, lemmas.Bool.cases_eq, lemmas.Bool.cases_Bool, lemmas.Slice.Eq.bytes_eq-Decides}
@@ -59,8 +59,7 @@ PositionsAre-push old new names id fresh updates placed q k =
 pub PositionsAre-AllDiffer : (positions : BTreeMap Text ℕ) (names : List Text) → PositionsAre positions names → AllDiffer names
 PositionsAre-AllDiffer positions names placed at (k, below, within, same) =
     let x = element_at names at within in
-    let one : k ≡ at = same_Some k at (sym ((placed x.0 k).1 (same ∙ x.1)) ∙ (placed x.0 at).1 x.1) in
-    omega (arith, below, one)
+    omega (arith, below, same_Some k at (sym ((placed x.0 k).1 (same ∙ x.1)) ∙ (placed x.0 at).1 x.1))
 
 -- an id that has a position already is the first that is repeated
 pub PositionsAre-IsFirstRepeat : (positions : BTreeMap Text ℕ) (names : List Text) (at : ℕ) (id : Text) (k : ℕ) → PositionsAre positions (take at names) → slice_get names at ≡ Some id → index_of positions id ≡ Some k → IsFirstRepeat names at
@@ -78,12 +77,10 @@ pub id_at : (packages : List PackageMetadata) (at : ℕ) (p : PackageMetadata) �
 id_at packages at p within read = mapped_at (λ (q : PackageMetadata). q.id) packages at p (slice_get-get_or packages at p within ∙ ap Some (sym read))
 
 some_of : (o : Option ℕ) → is_some o ≡ true → (k : ℕ) × (o ≡ Some k)
-some_of (Some k) e = (k, refl)
-some_of None e = absurd (cc)
+some_of o e = grind arith
 
 none_of : (o : Option ℕ) → is_some o ≡ false → o ≡ None
-none_of (Some k) e = absurd (cc)
-none_of None e = refl
+none_of o e = grind arith
 
 -- an id whose look-up found an earlier position
 pub repeated_at : (packages : List PackageMetadata) (at : ℕ) (p : PackageMetadata) (key : Text) (positions : BTreeMap Text ℕ) (earlier : Option ℕ) → at < length packages → p ≡ get_or packages at p → key ≡ p.id → PositionsAre positions (take at (ids packages)) → earlier ≡ index_of positions key → is_some earlier ≡ true → IsFirstRepeat (ids packages) at
@@ -130,8 +127,7 @@ pub AddsEdges-more : (rows mid : List (Vec ℕ Global)) (positions : List ℕ) (
 AddsEdges-more rows mid positions i from old new h within read pushed adds =
     rw (take_more positions i 0 h) (λ a b.
     let position : ℕ = get_or positions i 0 in
-    let here : slice_get mid position ≡ Some old = slice_get-get_or mid position old within ∙ ap Some (sym read) in
-    let step = HasEdge-push mid position from old new within here pushed a b in (
+    let step = HasEdge-push mid position from old new within (slice_get-get_or mid position old within ∙ ap Some (sym read)) pushed a b in (
       (λ edge. elim (step.0 edge) [
         | inl e ↦ elim ((adds a b).0 e) [ inl g ↦ inl g | inr g ↦ inr (g.0, Contains-append_left (take i positions) (position ∷ []) b g.1) ]
         | inr e ↦ inr (e.0, subst (λ (k : ℕ). Contains (take i positions ++ position ∷ []) k) (sym e.1) (Contains-push (take i positions) position))
@@ -148,10 +144,8 @@ AddsEdges-more rows mid positions i from old new h within read pushed adds =
 -- rows that are all empty
 pub no_edges : (rows : List (Vec ℕ Global)) → All (λ (row : Vec ℕ Global). row.items ≡ []) rows → (a b : ℕ) → HasEdge rows a b → ⊥
 no_edges rows empty a b (row, at, c) =
-    let read : get_or rows a row ≡ row = get_or_from_slice_get rows a row row at in
-    let none : row.items ≡ [] = ap (λ (v : Vec ℕ Global). v.items) (sym read) ∙ empty a row (slice_get_within rows a row at) in
-    let inside : c.0 < length row.items = c.1 in
-    omega (arith, inside, ap length none)
+    let none : row.items ≡ [] = ap (λ (v : Vec ℕ Global). v.items) (sym (get_or_from_slice_get rows a row row at)) ∙ empty a row (slice_get_within rows a row at) in
+    omega (arith, c.1, ap length none)
 
 -- the edges from the positions below i, the other way round
 abbrev pub ReversedBelow : ℕ → List (Vec ℕ Global) → List (Vec ℕ Global) → Type 0
@@ -185,8 +179,7 @@ AreRows-push positions packages links at p row size within read resolved rows = 
       | inl h ↦ rows k q r here h
       | inr h ↦
           (let at_p : slice_get packages at ≡ Some p = slice_get-get_or packages at p within ∙ ap Some (sym read) in
-          let position : k ≡ at = h.0 ∙ size in
-          let one : p ≡ q = same_Some p q (sym at_p ∙ ap (slice_get packages) (sym position) ∙ here) in
+          let one : p ≡ q = same_Some p q (sym at_p ∙ ap (slice_get packages) (sym (h.0 ∙ size)) ∙ here) in
           subst (λ (x : PackageMetadata). IsRowOf positions x.links.items r.items) one (subst (λ (v : Vec ℕ Global). IsRowOf positions p.links.items v.items) h.1 resolved))
     ]
 

@@ -26,16 +26,7 @@ pub unmarked-set : (marks : List Bool) (position : ℕ) → position < length ma
 unmarked-set marks position h e = grind (arith, common_steps, sum_by-set)
 
 pub MarksAll-again : (positions : List ℕ) (old new : List Bool) (before after : List ℕ) (position : ℕ) → MarksAll positions old new before after → IsMarked new position → MarksAll (positions ++ position ∷ []) old new before after
-MarksAll-again positions old new before after position done marked = record {
-  size = done.size;
-  kept = done.kept;
-  marked = λ k c. elim (Contains-push_cases positions position k c) [ inl h ↦ done.marked k h | inr e ↦ subst (λ (p : ℕ). IsMarked new p) e marked ];
-  only = λ k m. elim (done.only k m) [ inl h ↦ inl h | inr h ↦ inr (Contains-append_left positions (position ∷ []) k h) ];
-  pending = done.pending;
-  pending_kept = done.pending_kept;
-  pending_marked = done.pending_marked;
-  falls = done.falls;
-}
+MarksAll-again positions old new before after position done marked = grind (arith, common_steps, Contains-push_cases, Contains-append_left) steps 2000000
 
 pub MarksAll-more : (positions : List ℕ) (old new : List Bool) (before after : List ℕ) (position : ℕ) → MarksAll positions old new before after → position < length new → get_or new position false ≡ false → MarksAll (positions ++ position ∷ []) old (set new position true) before (after ++ position ∷ [])
 MarksAll-more positions old new before after position done within fresh = record {
@@ -93,8 +84,7 @@ ListsMarked-skip marks i positions e lists = λ k. (
 -- the search after all that the row of one pending position names was marked
 pub Spreads-step : (edges : List (Vec ℕ Global)) (starts marks new : List Bool) (pending rest after : List ℕ) (position : ℕ) (row : Vec ℕ Global) → pending ≡ rest ++ position ∷ [] → slice_get edges position ≡ Some row → Spreads edges starts marks pending → MarksAll row.items marks new rest after → Spreads edges starts new after
 Spreads-step edges starts marks new pending rest after position row popped here far done =
-    let was_pending : Contains pending position = rw popped (Contains-push rest position) in
-    let reached : IsReached edges starts position = far.sound position (far.pending_marked position was_pending) in
+    let reached : IsReached edges starts position = far.sound position (far.pending_marked position (rw popped (Contains-push rest position))) in
     record {
       size = done.size ∙ far.size;
       started = λ k m. done.kept k (far.started k m);
@@ -115,8 +105,7 @@ Spreads-step edges starts marks new pending rest after position row popped here 
 -- a pending position is a position of the graph
 pub Spreads-pending_within : (edges : List (Vec ℕ Global)) (starts marks : List Bool) (pending rest : List ℕ) (position : ℕ) → pending ≡ rest ++ position ∷ [] → Spreads edges starts marks pending → position < length edges
 Spreads-pending_within edges starts marks pending rest position popped far =
-    let was_pending : Contains pending position = rw popped (Contains-push rest position) in
-    let within : position < length marks = slice_get_within marks position true (far.pending_marked position was_pending) in
+    let within : position < length marks = slice_get_within marks position true (far.pending_marked position (rw popped (Contains-push rest position))) in
     omega (arith, far.size)
 
 -- the search with nothing pending

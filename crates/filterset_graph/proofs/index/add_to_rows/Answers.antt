@@ -1,4 +1,4 @@
-use Rattle.std.proofs.Common.{Vec, [], ◌∷◌, ◌++◌, ◌∙◌, ap, sym, ◌≡◌, ◌<◌, ℕ, length, get_or, take, arith}
+use Rattle.std.proofs.Common.{Vec, [], ◌∷◌, ◌++◌, ◌∙◌, ap, sym, ◌<◌, ℕ, length, get_or, arith}
 use Rattle.std.specs.Global.{Global}
 use Rattle.std.proofs.lemmas.List.{take_all}
 use Rattle.filterset_graph.proofs.Rows.{AddsEdges-none, AddsEdges-more}
@@ -13,6 +13,4 @@ loop-position-preserved c =
     AddsEdges-more c.args.rows.now c.loop-position.rows c.args.positions.now c.loop-position.position-index c.args.from c.index-rows-position.result c.push.new.self c.loop-position-test.true within c.index-rows-position.is (c.in_ok-push.ensures.items ∙ ap (λ (v : Vec ℕ Global). v.items ++ c.args.from ∷ []) (sym c.index-rows-position.is)) c.loop-position.invariant
 
 pub returns : goal.returns
-returns c =
-    let whole : take c.loop-position.position-index c.args.positions.now ≡ c.args.positions.now = take_all c.loop-position.position-index c.args.positions.now c.loop-position-test.false in
-    rw whole at c.loop-position.invariant
+returns c = rw (take_all c.loop-position.position-index c.args.positions.now c.loop-position-test.false) at c.loop-position.invariant

@@ -18,8 +18,7 @@ mark_all-requires c = λ k d h.
     let row : Vec ℕ Global = c.index-edges-position.result in
     let within : c.in-Some.position < length c.args.edges.now = Spreads-pending_within c.args.edges.now c.args.starts.now c.loop-position.marks.items c.loop-position.pending.items c.pop.new.self.items c.in-Some.position c.in-Some.ensures.items c.loop-position.invariant in
     let here : slice_get c.args.edges.now c.in-Some.position ≡ Some row = slice_get-get_or c.args.edges.now c.in-Some.position row within ∙ ap Some (sym c.index-edges-position.is) in
-    let in_row : k < length row.items = omega (arith, h, ap length c.as_slice.ensures.value) in
-    let named : Contains row.items (get_or row.items k d) = Contains-get_or row.items k d in_row in
+    let named : Contains row.items (get_or row.items k d) = Contains-get_or row.items k d (omega (arith, h, ap length c.as_slice.ensures.value)) in
     let below : get_or row.items k d < length c.args.edges.now = c.requires.edges c.in-Some.position (get_or row.items k d) (row, here, named) in
     rw (c.as_slice.ensures.value, c.deref_mut.ensures.value) (omega (arith, below, c.loop-position.invariant.size))
 

@@ -10,17 +10,13 @@ mark_alone-requires c =
     omega (arith, inside, c.self.inside.packages.ok.0, c.len.ensures)
 
 pub index-requires : goal.index-requires
-index-requires c =
-    let within : c.in-Some-Some.to < length c.args.self.now = one_position_within c.args.self.now c.args.b.now c.in-Some-Some.to c.in-Some-Some.ensures' in
-    omega (arith, within, c.in_ok-marks.ensures.len)
+index-requires c = omega (arith, one_position_within c.args.self.now c.args.b.now c.in-Some-Some.to c.in-Some-Some.ensures', c.in_ok-marks.ensures.len)
 
 pub returns-in_err-starts-clause-unknown : goal.returns-in_err-starts-clause-unknown
-returns-in_err-starts-clause-unknown c =
-    ((λ e known. memory_apart c.from_residual.result c.in_err-starts.field-0.0 c.from_residual.ensures.1 e), (λ no. absurd (no (one_position c.args.self.now c.args.a.now c.in-Some-Some.from c.in-Some-Some.ensures, one_position c.args.self.now c.args.b.now c.in-Some-Some.to c.in-Some-Some.ensures'))))
+returns-in_err-starts-clause-unknown c = grind (arith, memory_apart, one_position)
 
 pub returns-in_err-marks-clause-unknown : goal.returns-in_err-marks-clause-unknown
-returns-in_err-marks-clause-unknown c =
-    ((λ e known. memory_apart c.from_residual-in_err-marks.result c.in_err-marks.field-0.0 c.from_residual-in_err-marks.ensures.1 e), (λ no. absurd (no (one_position c.args.self.now c.args.a.now c.in-Some-Some.from c.in-Some-Some.ensures, one_position c.args.self.now c.args.b.now c.in-Some-Some.to c.in-Some-Some.ensures'))))
+returns-in_err-marks-clause-unknown c = grind (arith, memory_apart, one_position)
 
 pub returns-clause-unknown : goal.returns-clause-unknown
 returns-clause-unknown c =
