@@ -128,7 +128,7 @@ pub positions_of-none : (count n : ℕ) → positions_of count (0 ∷ replicate 
 positions_of-none count n = positions_of-is count (0 ∷ replicate n 0) (replicate count false) (length-replicate count false)
     (λ i within. (λ h. absurd (none_held count i h), λ h. absurd (none_had (suc n) i h)))
 
-first_held : (n i : ℕ) → Holds (true ∷ replicate n false) i → i ≡ 0
+pub first_held : (n i : ℕ) → Holds (true ∷ replicate n false) i → i ≡ 0
 first_held n zero h = refl
 first_held n (suc i) h = absurd (none_held n i h)
 

@@ -1,11 +1,11 @@
 -- Runs of tokens: what the first of them match, and then the rest.
-use Rattle.std.proofs.Common.{◌≡◌, ℕ, zero, suc, ◌+◌, ◌*◌, ◌<◌, ◌≤◌, Bool, true, List, [], ◌∷◌, ◌++◌, length, slice_index, get_or, take, drop, refl, sym, ap, subst, ◌∙◌, append_assoc, arith, length-append, length-take}
-use Rattle.std.proofs.lemmas.List.{take-append-drop, take-append-le, take_all, drop-take}
-use Rattle.filterset_glob.specs.{declared.token.GlobToken.GlobToken, Positions.Holds, Positions.Moves, Grammar.◌⊕◌}
-use Rattle.filterset_glob.specs.Matching.{Admits, TakesOne, OneAdmitted, Matches, MatchesToken, node_count, token_node_count}
-use Rattle.filterset_glob.specs.Tokens.{Token, is_star, literal, any_char, star, class, alternates, deep_first, deep_mid, deep_last, Tokens, no_token, next_token, token_of, tokens_of}
-use Rattle.filterset_glob.proofs.{Items.take_item, Opened.tokens_of-append}
-use Rattle.filterset_glob.proofs.Passing.{Then, moves_then, moves_done, moves_as, moves_over}
+use Rattle.std.proofs.Common.{◌≡◌, ℕ, zero, suc, ◌+◌, ◌*◌, ◌<◌, ◌≤◌, ◌⊎◌, ◌↔◌, Bool, true, List, [], ◌∷◌, ◌++◌, length, slice_index, get_or, take, drop, refl, sym, ap, subst, ◌∙◌, append_assoc, arith, length-append, length-drop, length-take}
+use Rattle.std.proofs.lemmas.List.{take-append-drop, take-append-le, take_all, drop-drop, drop-take, drop_all}
+use Rattle.filterset_glob.specs.{declared.token.GlobBranch.GlobBranch, declared.token.GlobToken.GlobToken, Positions.Holds, Positions.Moves, Grammar.◌⊕◌, Reading.followed_by}
+use Rattle.filterset_glob.specs.Matching.{Admits, TakesOne, OneAdmitted, Matches, MatchesSome, MatchesToken, node_count, token_node_count, branches_node_count}
+use Rattle.filterset_glob.specs.Tokens.{Token, is_star, literal, any_char, star, class, alternates, deep_first, deep_mid, deep_last, Tokens, no_token, next_token, Branches, branches_of, token_of, tokens_of, tokens_of_branch}
+use Rattle.filterset_glob.proofs.{Items.drop_item, Items.take_item, Opened.branches_of-push, Opened.tokens_of-append}
+use Rattle.filterset_glob.proofs.Passing.{Then, moves_then, moves_done, moves_as, moves_over, moves_joined, counted_on, counted_word, counted_all}
 
 pub one_matched : (token : Token) → TakesOne token → (t : List ℕ) → (MatchesToken token t → OneAdmitted token t) × (OneAdmitted token t → MatchesToken token t)
 one_matched (literal d) one t = (λ m. m, λ m. m)
@@ -128,3 +128,62 @@ star_of (alternates branches) e = cc
 star_of deep_first e = cc
 star_of deep_mid e = cc
 star_of deep_last e = cc
+
+-- ---- the loops of the matcher
+
+-- whatever the tokens from this one on make of the positions, all make of the first ones, and the steps that are left
+pub record Passed (tokens : List GlobToken) (text : List ℕ) (start : List Bool) (a at : ℕ) (p : List Bool) (b : ℕ) : Type 0 where
+  pub moved : (r : List Bool) → Moves (Matches (tokens_of (drop at tokens))) text p r → Moves (Matches (tokens_of tokens)) text start r
+  pub counted : b + 2 * node_count (tokens_of (drop at tokens)) * (length text + 1) ≤ a + 2 * node_count (tokens_of tokens) * (length text + 1)
+
+pub passed_one : (tokens : List GlobToken) (text : List ℕ) (start p q : List Bool) (a b c at : ℕ) (x : GlobToken) → Passed tokens text start a at p b → at < length tokens → x ≡ get_or tokens at x →
+    Moves (MatchesToken (token_of x)) text p q → c ≤ b + 2 * token_node_count (token_of x) * (length text + 1) → Passed tokens text start a (at + 1) q c
+passed_one tokens text start p q a b c at x so_far within is over cost =
+    let here = drop_item tokens at x within is in record {
+      moved = λ r last. so_far.moved r (subst (λ (l : List GlobToken). Moves (Matches (tokens_of l)) text p r) (sym here) (moves_then text p q r over last));
+      counted = counted_on a b c (token_node_count (token_of x)) (node_count (tokens_of (drop (at + 1) tokens))) (node_count (tokens_of tokens)) (length text + 1)
+          (subst (λ (l : List GlobToken). b + 2 * node_count (tokens_of l) * (length text + 1) ≤ a + 2 * node_count (tokens_of tokens) * (length text + 1)) here so_far.counted) cost;
+    }
+
+pub passed_some : (tokens : List GlobToken) (text : List ℕ) (start p q : List Bool) (a b c at n : ℕ) → Passed tokens text start a at p b → at < length tokens → 0 < n →
+    Moves (Matches (tokens_of (take n (drop at tokens)))) text p q → c ≤ b + 2 * (length text + 1) → Passed tokens text start a (at + n) q c
+passed_some tokens text start p q a b c at n so_far within some over cost =
+    let on = drop-drop n at tokens in
+    let fewer = fewer_nodes (drop at tokens) n some (omega (arith, length-drop at tokens)) in record {
+      moved = λ r last. so_far.moved r (moves_over_some (drop at tokens) n text p q r over (subst (λ (l : List GlobToken). Moves (Matches (tokens_of l)) text q r) (sym on) last));
+      counted =
+          let step = counted_some b c (node_count (tokens_of (drop (at + n) tokens))) (node_count (tokens_of (drop at tokens))) (length text + 1) cost (subst (λ (l : List GlobToken). node_count (tokens_of l) + 1 ≤ node_count (tokens_of (drop at tokens))) on fewer) in
+          omega (arith, step, so_far.counted);
+    }
+
+pub passed_all : (tokens : List GlobToken) (text : List ℕ) (start p : List Bool) (a b at : ℕ) → Passed tokens text start a at p b → length tokens ≤ at → Moves (Matches (tokens_of tokens)) text start p
+passed_all tokens text start p a b at so_far past =
+    so_far.moved p (subst (λ (l : List GlobToken). Moves (Matches (tokens_of l)) text p p) (sym (drop_all at tokens past)) (moves_done text p))
+
+-- two steps for each position are within the steps of one token
+pub steps_of_one : (token : Token) (m : ℕ) → 2 * m ≤ 2 * token_node_count token * m
+steps_of_one token m = grind (arith, nodes_of_one token)
+
+-- the branches before this one lead to these positions, and the steps that are left
+pub record Joined (branches : List GlobBranch) (text : List ℕ) (start : List Bool) (a at : ℕ) (q : List Bool) (b : ℕ) : Type 0 where
+  pub moved : Moves (MatchesSome (branches_of (take at branches))) text start q
+  pub counted : b + 2 * branches_node_count (branches_of (drop at branches)) * (length text + 1) ≤ a + 2 * branches_node_count (branches_of branches) * (length text + 1)
+
+pub joined_more : (branches : List GlobBranch) (text : List ℕ) (start q r s : List Bool) (a b c at : ℕ) (x : GlobBranch) → Joined branches text start a at q b → at < length branches → x ≡ get_or branches at x →
+    Moves (Matches (tokens_of_branch x)) text start r → ((i : ℕ) → Holds s i ↔ (Holds q i ⊎ Holds r i)) → c ≤ b + (length text + 1) + 2 * node_count (tokens_of_branch x) * (length text + 1) + (length text + 1) →
+    Joined branches text start a (at + 1) s c
+joined_more branches text start q r s a b c at x so_far within is over joins cost =
+    let here = drop_item branches at x within is in
+    let more : branches_of (take (at + 1) branches) ≡ followed_by (branches_of (take at branches)) (tokens_of_branch x) = ap branches_of (take_item branches at x within is) ∙ branches_of-push (take at branches) x in record {
+      moved = subst (λ (bs : Branches). Moves (MatchesSome bs) text start s) (sym more) (moves_joined (branches_of (take at branches)) (tokens_of_branch x) text start q r s joins so_far.moved over);
+      counted = counted_word a b c (node_count (tokens_of_branch x)) (branches_node_count (branches_of (drop (at + 1) branches))) (branches_node_count (branches_of branches)) (length text + 1)
+          (subst (λ (l : List GlobBranch). b + 2 * branches_node_count (branches_of l) * (length text + 1) ≤ a + 2 * branches_node_count (branches_of branches) * (length text + 1)) here so_far.counted) cost;
+    }
+
+pub joined_all : (branches : List GlobBranch) (text : List ℕ) (start q : List Bool) (a b at : ℕ) → Joined branches text start a at q b → length branches ≤ at →
+    Moves (MatchesSome (branches_of branches)) text start q × (b ≤ a + 2 * branches_node_count (branches_of branches) * (length text + 1))
+joined_all branches text start q a b at so_far past = (
+  subst (λ (l : List GlobBranch). Moves (MatchesSome (branches_of l)) text start q) (take_all at branches past) so_far.moved,
+  let left = subst (λ (l : List GlobBranch). b + 2 * branches_node_count (branches_of l) * (length text + 1) ≤ a + 2 * branches_node_count (branches_of branches) * (length text + 1)) (drop_all at branches past) so_far.counted in
+      counted_all a b (branches_node_count (branches_of branches)) (length text + 1) left,
+)

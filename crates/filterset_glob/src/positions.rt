@@ -1,9 +1,9 @@
 //! Sets of positions in a text, with one bit for each position.
 
-ghost use Rattle.std.specs.Prelude.{◌≡◌, ℕ, ◌+◌, ◌-◌, ◌*◌, ◌/◌, ◌^◌, ◌<◌, ◌≤◌, ◌↔◌, ◌⊎◌, ◌∷◌, false, true, List, [], Bool, length, take, replicate, slice_index, IfNone, IfOk, IfSome, IsOk, IsTrue};
+ghost use Rattle.std.specs.Prelude.{◌≡◌, ℕ, ◌+◌, ◌-◌, ◌*◌, ◌/◌, ◌^◌, ◌<◌, ◌≤◌, ◌↔◌, ◌⊎◌, ◌∷◌, false, true, List, [], Bool, length, take, replicate, IfNone, IfOk, IfSome, IsOk, IsTrue};
 ghost use Rattle.filterset_glob.specs.Positions.{Holds, Moves};
-ghost use Rattle.filterset_glob.specs.Matching.{slash, Admits, Matches, TakesOne};
-ghost use Rattle.filterset_glob.specs.{Tokens.token_of, Tokens.tokens_of, Words.positions_of};
+ghost use Rattle.filterset_glob.specs.Matching.{Matches, MatchesToken, TakesOne};
+ghost use Rattle.filterset_glob.specs.{Tokens.deep_first, Tokens.star, Tokens.token_of, Tokens.tokens_of, Words.positions_of};
 
 use crate::steps::Steps;
 use crate::text::Text;
@@ -11,6 +11,7 @@ use crate::token::GlobToken;
 use crate::{word, words};
 use std::alloc::{AllocError, Global};
 use std::marker::Model;
+use std::mem;
 
 /// The positions of a text that the matcher has reached. Every method that reads or writes all positions counts a step for
 /// each.
@@ -32,20 +33,14 @@ impl Model for Positions {
     ghost invariant = { λ p. length p.later.items ≡ (p.count - 1) / 64 };
 }
 
-impl Positions {
-    /// Returns the empty set, for the same text.
-    #[inline(always)]
-    pub(crate) fn make_empty(&self, alloc: Global) -> Result<Positions, AllocError>
-        ensures none { IfOk result (λ none. none ≡ replicate (length self.now) false) }
-        ensures no_memory { length self.now ≤ 64 → IsOk result }
-    {
-        Ok(Positions {
-            count: self.count,
-            first: 0,
-            later: words::make_empty(alloc, self.later.len())?,
-        })
-    }
+/// The positions before a group, where every branch starts, and those after the branches that were passed.
+#[derive(Drop)]
+pub(crate) struct GroupPositions {
+    pub(crate) before: Positions,
+    pub(crate) after: Positions,
+}
 
+impl Positions {
     /// Returns the set of the first position, for a text of `last` characters.
     pub(crate) fn start(alloc: Global, last: usize) -> Result<Positions, AllocError>
         requires { last + 1 < 2 ^ 64 }
@@ -59,33 +54,51 @@ impl Positions {
         })
     }
 
-    /// Copies the set.
-    pub(crate) fn try_clone(
+    /// Keeps the positions as those before a group, with none after it. The matcher has a frame on the stack for each group
+    /// around a token: to keep it small, the sets are boxed, and what moves them is not inlined.
+    #[cold]
+    #[inline(never)]
+    pub(crate) fn keep(
         &self,
         alloc: Global,
         steps: &mut Steps,
-    ) -> Result<Positions, AllocError>
-        ensures copy { IfOk result (λ positions. positions ≡ self.now) }
-        ensures no_memory { length self.now ≤ 64 → IsOk result }
+    ) -> Result<Box<GroupPositions>, AllocError>
+        ensures before { IfOk result (λ kept. kept.value.before ≡ self.now) }
+        ensures after { IfOk result (λ kept. kept.value.after ≡ replicate (length self.now) false) }
         ensures steps { steps.new.count ≡ steps.old.count + length self.now }
     {
-        steps.add(self.count); // each position is copied
-        Ok(Positions {
+        self.count_all(steps); // each position is copied
+        let before = Positions {
             count: self.count,
             first: self.first,
-            later: words::copy(alloc, &self.later)?,
-        })
+            later: self.later.to_vec(alloc)?,
+        };
+        let after = Positions {
+            count: self.count,
+            first: 0,
+            later: words::make_empty(alloc, self.later.len())?,
+        };
+        Ok(Box::new(alloc, GroupPositions { before, after })?)
     }
 
     /// Sets the positions to those of another set for the same text.
+    #[inline(never)]
     pub(crate) fn set(&mut self, other: &Positions, steps: &mut Steps)
         requires { length self.old ≡ length other.now }
         ensures same { self.new ≡ other.now }
         ensures steps { steps.new.count ≡ steps.old.count + length self.old }
     {
-        steps.add(self.count); // each position is written
+        self.count_all(steps); // each position is written
         self.first = other.first;
         self.later.copy_from_slice(&other.later);
+    }
+
+    /// Swaps the positions with those of another set.
+    #[inline(never)]
+    pub(crate) fn swap(&mut self, other: &mut Positions)
+        ensures { self.new ≡ other.old }
+    {
+        mem::swap(self, other);
     }
 
     /// Returns the set as one word, if its text has at most 63 characters.
@@ -110,7 +123,7 @@ impl Positions {
         ensures word { self.new ≡ positions_of (length self.old) (word ∷ []) }
         ensures steps { steps.new.count ≡ steps.old.count + length self.old }
     {
-        steps.add(self.count); // each position is written
+        self.count_all(steps); // each position is written
         self.first = word;
     }
 
@@ -122,43 +135,42 @@ impl Positions {
             ↔ (Holds (positions_of (length self.now) (word ∷ [])) i ⊎ Holds self.now i) }
         ensures steps { steps.new.count ≡ steps.old.count + length self.now }
     {
-        steps.add(self.count); // each position is joined
+        self.count_all(steps); // each position is joined
         word::unite(word, self.first)
     }
 
     /// Adds the positions of another set for the same text.
+    #[inline(never)]
     pub(crate) fn join(&mut self, other: &Positions, steps: &mut Steps)
         requires { length self.old ≡ length other.now }
         ensures length { length self.new ≡ length self.old }
         ensures joined { (i : ℕ) → Holds self.new i ↔ (Holds self.old i ⊎ Holds other.now i) }
         ensures steps { steps.new.count ≡ steps.old.count + length self.old }
     {
-        steps.add(self.count); // each position is joined
+        self.count_all(steps); // each position is joined
         self.first = word::unite(self.first, other.first);
         words::join(&mut self.later, &other.later);
     }
 
-    /// Adds all positions after the lowest.
+    /// Moves the positions over any text: adds all positions after the lowest.
     pub(crate) fn fill(&mut self, steps: &mut Steps)
         ensures length { length self.new ≡ length self.old }
-        ensures filled { (j : ℕ) → j < length self.old → Holds self.new j → (i : ℕ) × (i ≤ j) × Holds self.old i }
-        ensures fills { (i j : ℕ) → i ≤ j → j < length self.old → Holds self.old i → Holds self.new j }
+        ensures moved { (text : List ℕ) → length self.old ≡ length text + 1
+            → Moves (MatchesToken star) text self.old self.new }
         ensures steps { steps.new.count ≡ steps.old.count + length self.old }
     {
-        steps.add(self.count); // each position is looked at for the lowest
+        self.count_all(steps); // each position is looked at for the lowest
         self.first = word::fill_up(self.first, false);
         words::fill(&mut self.later, word::has(self.first, 63));
     }
 
-    /// Adds the positions after slashes, from the lowest position on.
+    /// Moves the positions over the empty text, or any text that ends in a slash: adds the positions after slashes, from
+    /// the lowest position on.
+    #[inline(never)]
     pub(crate) fn add_behind_slashes(&mut self, text: &Text, steps: &mut Steps)
         requires { length self.old ≡ length text.now + 1 }
         ensures length { length self.new ≡ length self.old }
-        ensures kept { (i : ℕ) → Holds self.old i → Holds self.new i }
-        ensures added { (i j : ℕ) → i ≤ j → Holds self.old i → slice_index text.now j ≡ slash → Holds self.new (j + 1) }
-        ensures only { (j : ℕ) → Holds self.new (j + 1)
-            → Holds self.old (j + 1) ⊎ ((slice_index text.now j ≡ slash) × (i : ℕ) × (i ≤ j) × Holds self.old i) }
-        ensures first { Holds self.new 0 → Holds self.old 0 }
+        ensures moved { Moves (MatchesToken deep_first) text.now self.old self.new }
         ensures steps { steps.new.count ≡ steps.old.count + length self.old }
     {
         self.count_all(steps); // each position is looked at for a slash after it
@@ -171,20 +183,17 @@ impl Positions {
         }
     }
 
-    /// Moves each position over the next character. Removes the position if the token does not admit the character.
+    /// Moves the positions over a token that admits single characters: each over the next character, or it is removed.
     #[inline(always)]
     pub(crate) fn step_over(&mut self, text: &mut Text, token: &GlobToken, steps: &mut Steps)
-        requires { length self.old ≡ length text.old + 1 }
+        requires long { length self.old ≡ length text.old + 1 }
+        requires one { TakesOne (token_of token.now) }
         ensures same { text.new ≡ text.old }
         ensures length { length self.new ≡ length self.old }
-        ensures first { ¬ Holds self.new 0 }
-        ensures moved { (i : ℕ) → i < length text.old → Holds self.new (i + 1)
-            → Holds self.old i × Admits (token_of token.now) (slice_index text.old i) }
-        ensures moves { (i : ℕ) → i < length text.old → Holds self.old i
-            → Admits (token_of token.now) (slice_index text.old i) → Holds self.new (i + 1) }
+        ensures moved { Moves (MatchesToken (token_of token.now)) text.old self.old self.new }
         ensures steps { steps.new.count ≡ steps.old.count + length self.old }
     {
-        steps.add(self.count); // each position is moved
+        self.count_all(steps); // each position is moved
         let kept = words::keep_first(self.first, text, token);
         self.first = word::shift_up(kept, 0);
         words::step_over(&mut self.later, text, token, word::highest(kept));
@@ -203,6 +212,7 @@ impl Positions {
         ensures length { length self.new ≡ length self.old }
         ensures short { result ≤ length tokens.now }
         ensures moved { Moves (Matches (tokens_of (take result tokens.now))) text.now self.old self.new }
+        ensures unchanged { result ≡ 0 → self.new ≡ self.old }
         // Each position counts, and a single position as often as it moves.
         ensures counted { steps.old.count + length self.old ≤ steps.new.count }
         ensures exactly { (i : ℕ) → Holds self.old i → steps.new.count ≡ steps.old.count + length self.old + result }
@@ -245,14 +255,6 @@ impl Positions {
         self.first == 0 && self.later.is_empty()
     }
 
-    /// Returns whether the set has the last position. Counts no step.
-    #[inline(always)]
-    pub(crate) fn holds_last(&self) -> bool
-        ensures { IsTrue result ↔ Holds self.now (length self.now - 1) }
-    {
-        self.count > 0 && self.holds(self.count - 1)
-    }
-
     /// Counts a step for each position.
     fn count_all(&self, steps: &mut Steps)
         ensures { steps.new.count ≡ steps.old.count + length self.now }
@@ -260,9 +262,9 @@ impl Positions {
         steps.add(self.count);
     }
 
-    /// Returns whether the set has this position.
+    /// Returns whether the set has this position. Counts no step.
     #[inline(always)]
-    fn holds(&self, position: usize) -> bool
+    pub(crate) fn holds(&self, position: usize) -> bool
         requires { position < length self.now }
         ensures { IsTrue result ↔ Holds self.now position }
     {

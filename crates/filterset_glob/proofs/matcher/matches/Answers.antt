@@ -1,14 +1,18 @@
-use Rattle.std.proofs.{Common.length, Common.ap, Common.◌∙◌, Common.arith, lemmas.Str.chars-IsAscii}
+use Rattle.std.proofs.Common.{Bool, false, length, ap, ◌∙◌, arith}
+use Rattle.std.proofs.lemmas.{List.length-replicate, Str.chars-IsAscii}
 use Rattle.filterset_glob.proofs.Passing.{answers}
 use Rattle.filterset_glob.proofs.matcher.matches.Goals as goal
 
+pub holds-requires : goal.holds-requires
+holds-requires c = omega (arith, c.in_ok-pass_tokens.ensures.length, ap length c.in_ok-positions.ensures.start, length-replicate {A = Bool} c.len-last.result false)
+
 pub returns-clause-answer : goal.returns-clause-answer
 returns-clause-answer c =
-    rw c.in_ok-text.ensures.characters at (answers c.in_ok-text.text c.in_ok-positions.positions c.pass_tokens.new.positions c.holds_last.result (rw c.len.ensures.length at c.in_ok-positions.ensures.start) c.in_ok-pass_tokens.ensures.length c.holds_last.ensures c.in_ok-pass_tokens.ensures.moved)
+    rw c.in_ok-text.ensures.characters at (answers c.in_ok-text.text c.in_ok-positions.positions c.pass_tokens.new.positions c.holds.result (rw c.len-last.ensures.length at c.in_ok-positions.ensures.start) (rw c.len-last.ensures.length at c.holds.ensures) c.in_ok-pass_tokens.ensures.moved)
 
 pub returns-in_err-positions-clause-no_memory : goal.returns-in_err-positions-clause-no_memory
 returns-in_err-positions-clause-no_memory c ascii short =
-    let no = c.in_err-positions.ensures.no_memory (omega (arith, c.len.ensures.length, ap length (c.in_ok-text.ensures.characters ∙ chars-IsAscii c.args.s.now ascii), short)) in absurd cc
+    let no = c.in_err-positions.ensures.no_memory (omega (arith, c.len-last.ensures.length, ap length (c.in_ok-text.ensures.characters ∙ chars-IsAscii c.args.s.now ascii), short)) in absurd cc
 
 pub returns-in_err-pass_tokens-clause-no_memory : goal.returns-in_err-pass_tokens-clause-no_memory
 returns-in_err-pass_tokens-clause-no_memory c ascii short =

@@ -1,6 +1,7 @@
 use Rattle.std.proofs.Common.{◌≡◌, ℕ, ◌+◌, ◌-◌, ◌<◌, ◌≤◌, ◌⊎◌, inl, inr, Bool, true, length, get_or, ap, sym, subst, ◌∙◌, arith, ⊎_elim, refl}
-use Rattle.std.proofs.lemmas.Bool.{cases_lt, cases_eq}
+use Rattle.std.proofs.lemmas.{Bool.cases_lt, Bool.cases_eq, List.get_or_past}
 use Rattle.filterset_glob.specs.{Positions.Holds, Matching.slash}
+use Rattle.filterset_glob.proofs.Passing.{moves_behind_slashes}
 use Rattle.filterset_glob.proofs.positions.Positions.add_behind_slashes.Goals.{then-reached, else-reached, then-reached-2+then-number, else-reached-2, else-reached-2-via-then-reached-2+else-number, else-reached-2-via-else-reached-2}
 use Rattle.filterset_glob.proofs.positions.Positions.add_behind_slashes.Goals as goal
 
@@ -56,3 +57,9 @@ loop-position-preserved c =
       came = came;
       comes = comes;
     }
+
+pub returns-clause-moved : goal.returns-clause-moved
+returns-clause-moved c =
+    let i = c.loop-position.invariant in let text = c.args.text.now in
+    moves_behind_slashes text c.args.self.now c.loop-position.self i.kept
+    (λ k j le h is. i.added k j le (⊎_elim (λ l. omega arith) (λ past. absurd (omega (arith, get_or_past text j 0 past))) (cases_lt j (length text))) h is) i.only i.first

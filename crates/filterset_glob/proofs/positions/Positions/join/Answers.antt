@@ -15,9 +15,6 @@ join-requires c =
 pub returns-clause-length : goal.returns-clause-length
 returns-clause-length c = length-positions_of _ _ ∙ sym (long _ _ c.args.self.now c.self.view_is)
 
-pub returns-clause-steps : goal.returns-clause-steps
-returns-clause-steps c = omega (arith, long _ _ c.args.self.now c.self.view_is)
-
 pub returns-clause-joined : goal.returns-clause-joined
 returns-clause-joined c i =
     let n = c.self.inside.count in

@@ -16,6 +16,3 @@ returns-clause-same c =
     ap (λ (n : ℕ). positions_of n (c.other.inside.first ∷ c.copy_from_slice.new.self.items)) same
     ∙ ap (λ ws. positions_of c.other.inside.count (c.other.inside.first ∷ ws)) (c.copy_from_slice.ensures.items ∙ c.deref.ensures.value)
     ∙ c.other.view_is
-
-pub returns-clause-steps : goal.returns-clause-steps
-returns-clause-steps c = omega (arith, long _ _ c.args.self.now c.self.view_is, c.add.ensures)

@@ -11,6 +11,3 @@ returns-clause-word c =
     let count : length c.args.self.now ≡ c.self.inside.count = long _ _ c.args.self.now c.self.view_is in
     let none : length c.self.inside.later.items ≡ 0 = omega (arith, c.self.invariant, count, c.requires) in
     ap (λ ws. positions_of c.self.inside.count (c.args.word ∷ ws)) (no_words c.self.inside.later.items none) ∙ ap (λ (k : ℕ). positions_of k (c.args.word ∷ [])) (sym count)
-
-pub returns-clause-steps : goal.returns-clause-steps
-returns-clause-steps c = omega (arith, long _ _ c.args.self.now c.self.view_is)

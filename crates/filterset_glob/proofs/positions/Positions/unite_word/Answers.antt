@@ -11,6 +11,3 @@ returns-clause-joined c i =
     let e = c.unite.ensures in
     subst (λ (p : List Bool). Holds (positions_of n (c.unite.result ∷ [])) i ↔ (Holds (positions_of n (c.args.word ∷ [])) i ⊎ Holds p i)) (sym is)
     (joined_words n c.unite.result c.args.word c.self.inside.first e.joined e.kept e.added i)
-
-pub returns-clause-steps : goal.returns-clause-steps
-returns-clause-steps c = omega (arith, long _ _ c.args.self.now c.self.view_is)

@@ -2,7 +2,7 @@ use Rattle.std.proofs.Common.{◌≡◌, ◌≢◌, ap, sym, subst, ◌∙◌, a
 use Rattle.std.specs.Int.{bit_at}
 use Rattle.std.proofs.lemmas.Bool.{cases_eq}
 use Rattle.filterset_glob.specs.{Matching.Admits, Tokens.token_of}
-use Rattle.filterset_glob.proofs.words.keep_literal.Goals as goal
+use Rattle.filterset_glob.proofs.words.keep_first.Goals as goal
 
 pub returns-clause-kept : goal.returns-clause-kept
 returns-clause-kept c k small within h =
