@@ -38,11 +38,13 @@ impl Block for u8x64 {
 pub(crate) fn load_first(bytes: &[u8]) -> u8x64
     ensures { (k : ℕ) → k < 64 → k < length bytes.now → slice_index result k ≡ slice_index bytes.now k }
 {
-    if bytes.len() >= 64 {
-        u8x64::from_slice(bytes)
-    } else {
-        u8x64::from_array(pad(bytes))
+    let count = bytes.len();
+    if count >= 64 {
+        return u8x64::from_slice(bytes);
     }
+    let mut block = [u8::MAX; 64];
+    block[..count].copy_from_slice(bytes);
+    u8x64::from_array(block)
 }
 
 /// Returns the 64 bytes of this block. If there are fewer, the bytes after them may be anything.
@@ -68,15 +70,4 @@ fn load_last(bytes: &[u8], block: usize) -> u8x64
         return u8x64::splat(0);
     }
     load_first(&bytes[64 * block..])
-}
-
-/// Returns up to 64 bytes, and others after them.
-#[inline(always)]
-fn pad(bytes: &[u8]) -> [u8; 64]
-    ensures { (k : ℕ) → k < 64 → k < length bytes.now → slice_index result k ≡ slice_index bytes.now k }
-{
-    let mut block = [u8::MAX; 64];
-    let count = bytes.len().min(64);
-    block[..count].copy_from_slice(&bytes[..count]);
-    block
 }

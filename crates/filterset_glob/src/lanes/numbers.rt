@@ -56,20 +56,11 @@ pub(crate) fn find_number(numbers: &[u32], number: u32) -> u64
 fn load(numbers: &[u32]) -> Numbers
     ensures { (k : ℕ) → k < 64 → k < length numbers.now → slice_index result k ≡ slice_index numbers.now k }
 {
-    if numbers.len() >= 64 {
-        Numbers::from_slice(numbers)
-    } else {
-        Numbers::from_array(pad(numbers))
+    let count = numbers.len();
+    if count >= 64 {
+        return Numbers::from_slice(numbers);
     }
-}
-
-/// Returns up to 64 numbers, and others after them.
-#[inline(always)]
-fn pad(numbers: &[u32]) -> [u32; 64]
-    ensures { (k : ℕ) → k < 64 → k < length numbers.now → slice_index result k ≡ slice_index numbers.now k }
-{
     let mut block = [u32::MAX; 64];
-    let count = numbers.len().min(64);
-    block[..count].copy_from_slice(&numbers[..count]);
-    block
+    block[..count].copy_from_slice(numbers);
+    Numbers::from_array(block)
 }
