@@ -1,5 +1,5 @@
 -- Where a text stands in another.
-use Rattle.std.proofs.Common.{◌≡◌, ◌↔◌, ◌+◌, ◌-◌, ◌<◌, ◌≤◌, ◌^◌, ◌%◌, ℕ, List, [], ◌∷◌, ◌++◌, Bool, true, false, cond, map, get_or, bit_and, length, take, drop, replicate, refl, ap, sym, ◌∙◌, arith, w8, w64, ⊎_elim, eqb, eqb-true, eq-eqb}
+use Rattle.std.proofs.Common.{◌≡◌, ◌↔◌, ◌+◌, ◌-◌, ◌<◌, ◌≤◌, ◌^◌, ◌%◌, ℕ, List, ◌++◌, Bool, true, false, cond, map, get_or, bit_and, length, take, drop, replicate, refl, ap, sym, ◌∙◌, arith, w8, w64, ⊎_elim, eqb, eqb-true, eq-eqb}
 use Rattle.std.specs.Int.{bit_at, leading_zeros, trailing_zeros}
 use Rattle.std.specs.Simd.Lanes.{zip2, mask_l, top}
 use Rattle.std.proofs.Math.Seq.{take-append_seam, drop-append_seam}

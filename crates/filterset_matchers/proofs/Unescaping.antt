@@ -30,9 +30,10 @@ pub stops_special : (found rest : List ℕ) (c : ℕ) → ¬ (c ≡ 0x5C) → ha
 stops_special found rest c no_slash special = rw (special, ne_eqb c 0x5C no_slash) refl
 
 -- the next character, and what is left after it
-pub after_turn : (escaped : Bool) (found text yielded : List ℕ) (c : ℕ) → (length yielded < length text) × (c ≡ get_or text (length yielded) c) →
-    goes_on escaped found (drop (length yielded) text) ≡ goes_on escaped found (c ∷ drop (length (yielded ++ c ∷ [])) text)
-after_turn escaped found text yielded c turn =
-    at_drop_more (goes_on escaped found) text (length yielded) c turn.0
-    ∙ ap (λ x. goes_on escaped found (x ∷ drop (length yielded + 1) text)) (sym turn.1)
-    ∙ ap (λ k. goes_on escaped found (c ∷ drop k text)) (sym (length_push yielded c))
+pub turned : (escaped : Bool) (found text yielded : List ℕ) (c : ℕ) (whole : Option (List ℕ)) → (length yielded < length text) × (c ≡ get_or text (length yielded) c) →
+    goes_on escaped found (drop (length yielded) text) ≡ whole → goes_on escaped found (c ∷ drop (length (yielded ++ c ∷ [])) text) ≡ whole
+turned escaped found text yielded c whole turn so_far =
+    ap (λ k. goes_on escaped found (c ∷ drop k text)) (length_push yielded c)
+    ∙ ap (λ x. goes_on escaped found (x ∷ drop (length yielded + 1) text)) turn.1
+    ∙ sym (at_drop_more (goes_on escaped found) text (length yielded) c turn.0)
+    ∙ so_far

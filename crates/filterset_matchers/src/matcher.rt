@@ -7,7 +7,6 @@ use std::rc::Rc;
 
 mod compiled;
 mod glob;
-mod literal;
 mod pattern;
 mod plain;
 mod substring;

@@ -1,13 +1,13 @@
-//! A glob with its longest literal.
-ghost use Rattle.std.specs.{Prelude.◌≡◌, Prelude.◌↔◌, Prelude.IfOk, Prelude.IsTrue, Str.chars};
-ghost use Rattle.filterset_glob.specs.Matching.{Matches};
-ghost use Rattle.filterset_matchers.specs.Literals.{begins_with_any_text};
+//! A glob with its longest literal, which every text contains that the glob matches.
+ghost use Rattle.std.specs.Prelude.{◌≡◌, ◌⊎◌, ◌↔◌, [], IfOk, IsTrue, chars, string_bytes};
+ghost use Rattle.filterset_glob.specs.{Matching.Matches, Tokens.tokens_of};
+ghost use Rattle.filterset_matchers.specs.Literals.{StandsInEach, begins_with_any_text};
 
-use super::literal::find_longest_literal;
 use super::substring;
 use filterset_glob::{GenericGlob, GlobToken};
 use std::alloc::{AllocError, Global};
 use std::marker::Model;
+use std::mem::swap;
 
 /// A glob that is prepared for many names: a name that does not contain the glob's longest literal is rejected by a fast
 /// search. Contracts see the glob.
@@ -78,4 +78,32 @@ impl<'g> GlobMatcher<'g> {
         }
         self.glob.is_match(alloc, name)
     }
+}
+
+/// Returns the longest run of literals among the tokens, outside of groups. It is empty if there is no literal. The only
+/// error is out of memory.
+fn find_longest_literal(alloc: Global, tokens: &[GlobToken]) -> Result<String, AllocError>
+    ensures { IfOk result (λ literal. StandsInEach (tokens_of tokens.now) (string_bytes literal)) }
+{
+    let mut longest = String::new(alloc);
+    let mut run = String::new(alloc);
+    for token in tokens {
+        match token {
+            GlobToken::Literal(own) => run.push(*own)?,
+            _ => end_run(&mut longest, &mut run),
+        }
+    }
+    end_run(&mut longest, &mut run);
+    Ok(longest)
+}
+
+/// Ends a run: keeps it if it is longer than `longest`, and empties it.
+fn end_run(longest: &mut String, run: &mut String)
+    ensures kept { string_bytes longest.new ≡ string_bytes longest.old ⊎ string_bytes longest.new ≡ string_bytes run.old }
+    ensures begun { string_bytes run.new ≡ [] }
+{
+    if run.len() > longest.len() {
+        swap(longest, run);
+    }
+    run.clear();
 }

@@ -199,24 +199,22 @@ fn list_alone(alloc: Global, text: String) -> Result<Vec<String>, AllocError>
     Ok(vec![in alloc; text]?)
 }
 
-/// Returns whether to parse the text before a regex is built: it may be a choice of few texts, or its matches may have a
-/// known place. The answer does not change what the pattern matches.
+/// Returns whether to parse the text before a regex is built: its matches may have a known place, or it has none of the
+/// characters that are rare in a choice of few texts. The answer does not change what the pattern matches.
 fn is_worth_reading(text: &str) -> bool {
     let begins_with_literal = !text
         .chars()
         .take(LEAST_LITERAL)
         .any(|character| is_special(character));
-    begins_with_literal || text.starts_with("^") || text.ends_with("$") || may_be_choice(text)
-}
-
-/// Returns whether the text has none of the characters that are rare in a choice of few texts.
-fn may_be_choice(text: &str) -> bool {
-    !text.bytes().any(|byte| {
-        matches!(
-            byte,
-            b'^' | b'$' | b'(' | b')' | b'*' | b'+' | b'?' | b'{' | b'}' | b'.' | b'\\'
-        )
-    })
+    begins_with_literal
+        || text.starts_with("^")
+        || text.ends_with("$")
+        || !text.bytes().any(|byte| {
+            matches!(
+                byte,
+                b'^' | b'$' | b'(' | b')' | b'*' | b'+' | b'?' | b'{' | b'}' | b'.' | b'\\'
+            )
+        })
 }
 
 /// Parses the text, and chooses the way to search for it, if it is a choice of few texts or its matches have a known

@@ -4,8 +4,8 @@ use Rattle.filterset_glob.specs.Tokens.{tokens_of, token_of}
 use Rattle.filterset_glob.proofs.Items.{take_item}
 use Rattle.filterset_matchers.specs.Literals.{StandsInEach}
 use Rattle.filterset_matchers.proofs.Literals.{run_grows, still_stands, none_ends, longer_stands}
-use Rattle.filterset_matchers.proofs.matcher.literal.find_longest_literal.Goals as goal
-use Rattle.filterset_matchers.proofs.matcher.literal.find_longest_literal.Goals.{in-Literal+in_ok-push-in-Literal, in_default}
+use Rattle.filterset_matchers.proofs.matcher.glob.find_longest_literal.Goals as goal
+use Rattle.filterset_matchers.proofs.matcher.glob.find_longest_literal.Goals.{in-Literal+in_ok-push-in-Literal, in_default}
 
 pub loop-token-preserved : goal.loop-token-preserved
 loop-token-preserved c =
