@@ -102,9 +102,9 @@ regex_takes p pattern s q e =
     }
 
 -- the body that the code cuts off
-pub body_taken : (i e r : Input) (count : ℕ) (pattern cut : List ℕ) (s : SourceSpan) → count ≡ body_len 0 i.rest.now → position_of e ≡ advanced count (position_of i) → Some (position_of r) ≡ after (47 ∷ []) (position_of e)
-    → cut ≡ slice_range i.rest.now 0 count → pattern ≡ with_slashes cut → s ≡ span i.offset (e.offset - i.offset) → BodyTaken (position_of i) pattern s (position_of r)
-body_taken i e r count pattern cut s counted at stands cut_is pattern_is span_is =
+pub body_read : (i e r : Input) (count : ℕ) (pattern cut : List ℕ) (s : SourceSpan) → count ≡ body_len 0 i.rest.now → position_of e ≡ advanced count (position_of i) → Some (position_of r) ≡ after (47 ∷ []) (position_of e)
+    → cut ≡ slice_range i.rest.now 0 count → pattern ≡ with_slashes cut → s ≡ span i.offset (e.offset - i.offset) → body_at (position_of i) ≡ Some ((pattern, s), position_of r)
+body_read i e r count pattern cut s counted at stands cut_is pattern_is span_is =
     let t = i.rest.now in
     let n = body_len 0 t in
     let front : cut ≡ take n t = let z : count - 0 ≡ n = omega (arith, counted) in cut_is ∙ ap (λ (k : ℕ). take k t) z in
@@ -113,7 +113,7 @@ body_taken i e r count pattern cut s counted at stands cut_is pattern_is span_is
     let first : with_slashes (take n t) ≡ pattern = ap with_slashes (sym front) ∙ sym pattern_is in
     let second : span i.offset n ≡ s = ap (span i.offset) (sym size) ∙ sym span_is in
     let found : after (47 ∷ []) (advanced n (position_of i)) ≡ Some (position_of r) = ap (after (47 ∷ [])) (sym end) ∙ sym stands in
-    regex_takes (position_of i) pattern s (position_of r) (rw (found, first, second) refl)
+    rw (found, first, second) refl
 
 -- the body is what its span cuts off
 pub body_piece : (i : Input) (pattern : List ℕ) (s : SourceSpan) (q : Position) → BodyTaken (position_of i) pattern s q → Body (piece i.text.now s) pattern

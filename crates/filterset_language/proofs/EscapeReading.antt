@@ -116,38 +116,17 @@ code_takes (b ∷ t) seen code c n le e =
 
 -- ---- letters
 
-letter_again : {l c : ℕ} → Letter l c → letter_at l ≡ Some c
-letter_again line_feed = refl
-letter_again carriage_return = refl
-letter_again tab = refl
-letter_again backspace = refl
-letter_again form_feed = refl
-letter_again backslash = refl
-letter_again slash = refl
-letter_again close = refl
-letter_again comma = refl
-
-no_brace_letter : {l c : ℕ} → Letter l c → eqb l 117 ≡ false
-no_brace_letter line_feed = refl
-no_brace_letter carriage_return = refl
-no_brace_letter tab = refl
-no_brace_letter backspace = refl
-no_brace_letter form_feed = refl
-no_brace_letter backslash = refl
-no_brace_letter slash = refl
-no_brace_letter close = refl
-no_brace_letter comma = refl
-
-letter_low : {l c : ℕ} → Letter l c → l < 128
-letter_low line_feed = omega arith
-letter_low carriage_return = omega arith
-letter_low tab = omega arith
-letter_low backspace = omega arith
-letter_low form_feed = omega arith
-letter_low backslash = omega arith
-letter_low slash = omega arith
-letter_low close = omega arith
-letter_low comma = omega arith
+-- what a letter stands for; it is not the `u` of a number, and it is ASCII
+letter_again : {l c : ℕ} → Letter l c → (letter_at l ≡ Some c) × (eqb l 117 ≡ false) × (l < 128)
+letter_again line_feed = (refl, refl, omega arith)
+letter_again carriage_return = (refl, refl, omega arith)
+letter_again tab = (refl, refl, omega arith)
+letter_again backspace = (refl, refl, omega arith)
+letter_again form_feed = (refl, refl, omega arith)
+letter_again backslash = (refl, refl, omega arith)
+letter_again slash = (refl, refl, omega arith)
+letter_again close = (refl, refl, omega arith)
+letter_again comma = (refl, refl, omega arith)
 
 letter_is : (l c : ℕ) → letter_at l ≡ Some c → Letter l c
 letter_is l c e =
@@ -175,8 +154,8 @@ pub escape_again : {own : List ℕ} {c : ℕ} → Escape own c → (u : List ℕ
 escape_again (letter {l} {c} is) u = first u
   where
     first : (u : List ℕ) → escape_at (l ∷ u) ≡ Some (c, 1)
-    first [] = ap (option_map (λ (x : ℕ). (x, 1))) (letter_again is)
-    first (d ∷ t) = rw (no_brace_letter is) (ap (option_map (λ (x : ℕ). (x, 1))) (letter_again is))
+    first [] = ap (option_map (λ (x : ℕ). (x, 1))) (letter_again is).0
+    first (d ∷ t) = rw (letter_again is).1 (ap (option_map (λ (x : ℕ). (x, 1))) (letter_again is).0)
 escape_again (hexadecimal {t} {c} digits some few number is text) u =
     let whole : t ++ u ≡ 117 ∷ 123 ∷ (digits ++ (125 ∷ u)) = ap (λ (x : List ℕ). x ++ u) text ∙ ap (λ (x : List ℕ). 117 ∷ 123 ∷ x) (append_assoc digits (125 ∷ []) u) in
     let size : length t ≡ length digits + 3 = ap length text ∙ (let e = length-append digits (125 ∷ []) in omega (arith, e)) in
@@ -228,7 +207,7 @@ pub record EndsLow (own : List ℕ) : Type 0 where
   pub parts : own ≡ front ++ (last ∷ [])
 
 escape_ends : {own : List ℕ} {c : ℕ} → Escape own c → EndsLow own
-escape_ends (letter {l} {c} is) = record { front = []; last = l; low = letter_low is; parts = refl }
+escape_ends (letter {l} {c} is) = record { front = []; last = l; low = (letter_again is).2; parts = refl }
 escape_ends (hexadecimal {t} {c} digits some few number is text) = record { front = 117 ∷ 123 ∷ digits; last = 125; low = omega arith; parts = text }
 
 pub escape_within : (t : List ℕ) (c n : ℕ) → escape_at t ≡ Some (c, n) → n ≤ length t

@@ -13,13 +13,12 @@ use Rattle.filterset_language.specs.Parsing.Position.{Position, position, positi
 use Rattle.filterset_language.specs.Parsing.Words.{choose, with, not_at, name_at, joiner_at, or_at, name_text}
 use Rattle.filterset_language.specs.Faults.{ClosesArgument, InvalidAnd, InvalidOr, Misplaced, misplaced_and, misplaced_or, misplaced_AND, misplaced_OR, misplaced_ampersands, misplaced_pipes, EndsWith, BehindBlanks, BeginsOperand, with_name, with_negation, with_parenthesis, IsName, Opener, parenthesis, invalid_and, invalid_or, BeforeOperand, at_start, behind_opener, FaultStands}
 use Rattle.filterset_language.specs.Parsing.Recovery.{Found, AtOperand, AtName, behind_misplaced, IsMisplaced}
-use Rattle.filterset_language.specs.declared.parsing.misplaced.Misplaced.{Misplaced as Found-operator}
 use Rattle.filterset_language.specs.declared.parsing.{input.Input.Input, names.PredicateName.PredicateName}
 use Rattle.filterset_language.proofs.{Positions.behind_same, Positions.skip_again, SpelledIsRead.not_stop}
 use Rattle.filterset_language.proofs.SpelledLeavesAreRead.{close_stop, name_stop, open_stop}
-use Rattle.filterset_language.proofs.StepsTakeText.{Takes, word_after, after_takes, skip_takes, JoinerTaken, joiner_takes, OrTaken, or_takes, not_takes, name_takes}
-use Rattle.filterset_language.proofs.RawTextFaults.{size, begins_here, point_ends, rest_ends, piece_ends}
-use Rattle.filterset_language.proofs.ClosingParenthesis.{close_within, close_behind, close_none, close_boundary}
+use Rattle.filterset_language.proofs.StepsTakeText.{Takes, word_after, word_takes, after_takes, skip_takes, JoinerTaken, joiner_takes, OrTaken, or_takes, not_takes, name_takes}
+use Rattle.filterset_language.proofs.RawTextFaults.{size, piece_is, point_found, piece_found, rest_found}
+use Rattle.filterset_language.proofs.ClosingParenthesis.{close_within, close_behind, close_none}
 use Rattle.filterset_language.proofs.WhiteSpaceTest.{white_to}
 use Rattle.filterset_language.specs.Faults as faults
 use Rattle.filterset_faults.specs.Span.{span}
@@ -42,12 +41,6 @@ ends_with a b w same takes =
     let at : b.offset ≡ length front + length w = omega (arith, takes.offset, before_length a) in
     let cut : take (length front + length w) (front ++ (w ++ b.rest.now)) ≡ front ++ w = take-append-add front (w ++ b.rest.now) (length w) ∙ ap (λ (t : List ℕ). front ++ t) (take_at w b.rest.now (length w) refl) in
     record { front = front; parts = ap (λ (n : ℕ). take n b.text.now) at ∙ ap (take (length front + length w)) text ∙ cut }
-
--- the piece between two positions
-pub piece_is : (a b : Input) (w : List ℕ) → Takes (position_of a) w (position_of b) → take (b.offset - a.offset) (drop a.offset a.text.now) ≡ w
-piece_is a b w takes =
-    let n : b.offset - a.offset ≡ length w = omega (arith, takes.offset) in
-    ap (λ (k : ℕ). take k (drop a.offset a.text.now)) n ∙ ap (take (length w)) (a.seam.onward ∙ takes.parts) ∙ take_at w b.rest.now (length w) refl
 
 -- ---- words that do not stand
 
@@ -121,57 +114,26 @@ is_name names.All = faults.all
 is_name names.None = faults.none
 
 pub open_found : (i : Input) (s : Position) (n : PredicateName) → AtName n i → s ≡ skip (position_of i) → None ≡ after (codes "(") s → Found i.text.now (ExpectedOpenParenthesis (span i.offset 0))
-open_found i s n name skipped none = record {
-  stands = record {
-    within = let e = size i in omega arith;
-    begins = begins_here i;
-    ends = point_ends i;
-    there = (refl, (λ behind. no_word (codes "(") (position_of i) open_stop (none ∙ ap (after (codes "(")) skipped) (subst (BehindBlanks (codes "(")) i.seam.onward behind)), (name_text n, is_name n, name));
-  };
-  inside = refl;
-}
+open_found i s n name skipped none =
+    point_found i (ExpectedOpenParenthesis (span i.offset 0)) refl refl (λ h. h)
+    (refl, (λ behind. no_word (codes "(") (position_of i) open_stop (none ∙ ap (after (codes "(")) skipped) (subst (BehindBlanks (codes "(")) i.seam.onward behind)), (name_text n, is_name n, name))
 
 pub close_found : (i : Input) (s : Position) → s ≡ skip (position_of i) → None ≡ after (codes ")") s → Found i.text.now (ExpectedCloseParenthesis (span i.offset 0))
-close_found i s skipped none = record {
-  stands = record {
-    within = let e = size i in omega arith;
-    begins = begins_here i;
-    ends = point_ends i;
-    there = (refl, λ behind. no_word (codes ")") (position_of i) close_stop (none ∙ ap (after (codes ")")) skipped) (subst (BehindBlanks (codes ")")) i.seam.onward behind));
-  };
-  inside = refl;
-}
+close_found i s skipped none =
+    point_found i (ExpectedCloseParenthesis (span i.offset 0)) refl refl (λ h. h)
+    (refl, λ behind. no_word (codes ")") (position_of i) close_stop (none ∙ ap (after (codes ")")) skipped) (subst (BehindBlanks (codes ")")) i.seam.onward behind))
 
 pub expr_found : (i : Input) (s : Position) → AtOperand i → s ≡ skip (position_of i) → None ≡ name_at s → None ≡ not_at s → None ≡ after (codes "(") s → Found i.text.now (ExpectedExpr (span i.offset (length i.rest.now)))
-expr_found i s at skipped no_name no_not no_open = record {
-  stands = record {
-    within = let e = size i in omega arith;
-    begins = begins_here i;
-    ends = rest_ends i;
-    there = (at.before, size i, λ blanks u are is begins. no_operand (position_of i) s skipped no_name no_not no_open blanks u are (sym i.seam.onward ∙ is) begins);
-  };
-  inside = refl;
-}
+expr_found i s at skipped no_name no_not no_open =
+    rest_found i (ExpectedExpr (span i.offset (length i.rest.now))) refl refl (λ h. h)
+    (at.before, size i, λ blanks u are is begins. no_operand (position_of i) s skipped no_name no_not no_open blanks u are (sym i.seam.onward ∙ is) begins)
 
 pub comma_found : (i b : Input) (s : Position) → s ≡ skip (position_of i) → Some (position_of b) ≡ after (codes ",") s → Found i.text.now (UnexpectedComma (span i.offset 0))
 comma_found i b s skipped stands =
     let k = skip_takes i.rest.now i.offset in
     let t = after_takes (codes ",") (skip (position_of i)) (position_of b) (sym (stands ∙ ap (after (codes ",")) skipped)) in
-    record {
-      stands = record {
-        within = let e = size i in omega arith;
-        begins = begins_here i;
-        ends = point_ends i;
-        there = (refl, record { blanks = k.blanks; are = k.are; rest = b.rest.now; parts = i.seam.onward ∙ k.takes.parts ∙ ap (λ (x : List ℕ). k.blanks ++ x) t.parts });
-      };
-      inside = refl;
-    }
-
--- what stands before the next `)` ends before a character
-closed_ends : (i e : Input) → e.offset - i.offset ≡ close_len i.rest.now → IsCharBoundary i.text.now (i.offset + (e.offset - i.offset))
-closed_ends i e n =
-    let own : IsCharBoundary (drop i.offset i.text.now) (close_len i.rest.now) = subst (λ (t : List ℕ). IsCharBoundary t (close_len i.rest.now)) (sym i.seam.onward) (close_boundary (close_len i.rest.now) i.rest.now refl) in
-    subst (λ (k : ℕ). IsCharBoundary i.text.now (i.offset + k)) (sym n) (IsCharBoundary-from_rest i.text.now i.offset (close_len i.rest.now) i.seam.within own)
+    point_found i (UnexpectedComma (span i.offset 0)) refl refl (λ h. h)
+    (refl, record { blanks = k.blanks; are = k.are; rest = b.rest.now; parts = i.seam.onward ∙ k.takes.parts ∙ ap (λ (x : List ℕ). k.blanks ++ x) t.parts })
 
 pub argument_found : (i e : Input) → position_of e ≡ position (i.offset + close_len i.rest.now) (drop (close_len i.rest.now) i.rest.now) → is_white (take (close_len i.rest.now) i.rest.now) ≡ false
     → Found i.text.now (UnexpectedArgument (span i.offset (e.offset - i.offset)))
@@ -179,38 +141,12 @@ argument_found i e is black =
     let t = i.rest.now in
     let at : e.offset ≡ i.offset + close_len t = ap (λ (p : Position). p.at) is in
     let n : e.offset - i.offset ≡ close_len t = omega arith in
-    let piece : take (e.offset - i.offset) (drop i.offset i.text.now) ≡ take (close_len t) t = ap (λ (k : ℕ). take k (drop i.offset i.text.now)) n ∙ ap (take (close_len t)) i.seam.onward in
+    let whole : t ≡ take (close_len t) t ++ e.rest.now = sym (take-append-drop (close_len t) t) ∙ ap (λ (p : Position). take (close_len t) t ++ p.rest) (sym is) in
+    let takes : Takes (position_of i) (take (close_len t) t) (position_of e) = record { parts = whole; offset = omega (arith, length-take (close_len t) t, close_within t) } in
     let rest : drop (e.offset - i.offset) (drop i.offset i.text.now) ≡ drop (close_len t) t = ap (λ (k : ℕ). drop k (drop i.offset i.text.now)) n ∙ ap (drop (close_len t)) i.seam.onward in
-    record {
-      stands = record {
-        within = let d = size i in let w = close_within t in omega (arith, n);
-        begins = begins_here i;
-        ends = closed_ends i e n;
-        there = (subst (All (λ (b : ℕ). b ≢ 41)) (sym piece) (close_none t), (λ white. not_white t black (subst WhiteSpace piece white)), subst ClosesArgument (sym rest) (close_behind t));
-      };
-      inside = refl;
-    }
-  where
-    not_white : (t : List ℕ) → is_white (take (close_len t) t) ≡ false → WhiteSpace (take (close_len t) t) → ⊥
-    not_white t black white = let f : true ≡ false = sym (white_to _ white) ∙ black in cc
-
--- the span between two positions of a text lies in it
-span_within : (i s r : Input) → s.text.now ≡ i.text.now → r.text.now ≡ s.text.now → s.offset ≤ r.offset → s.offset + (r.offset - s.offset) ≤ length i.text.now
-span_within i s r a b le =
-    let e = r.seam.within in
-    let f : length r.text.now ≡ length i.text.now = ap length (b ∙ a) in
-    omega (arith, e)
-
-piece_at : (i s r : Input) (w : List ℕ) → s.text.now ≡ i.text.now → after w (position_of s) ≡ Some (position_of r) → take (r.offset - s.offset) (drop s.offset i.text.now) ≡ w
-piece_at i s r w same stands = ap (λ (t : List ℕ). take (r.offset - s.offset) (drop s.offset t)) (sym same) ∙ piece_is s r w (after_takes w (position_of s) (position_of r) stands)
-
-begins_in : (i s : Input) → s.text.now ≡ i.text.now → IsCharBoundary i.text.now s.offset
-begins_in i s same = subst (λ (t : List ℕ). IsCharBoundary t s.offset) same (begins_here s)
-
-ends_in : (i s r : Input) (w : List ℕ) → s.text.now ≡ i.text.now → after w (position_of s) ≡ Some (position_of r) → IsCharBoundary i.text.now (s.offset + (r.offset - s.offset))
-ends_in i s r w same stands =
-    let t = after_takes w (position_of s) (position_of r) stands in
-    subst (λ (x : List ℕ). IsCharBoundary x (s.offset + (r.offset - s.offset))) same (piece_ends s r w t.parts t.offset)
+    let piece = sym (piece_is i e _ takes) in
+    piece_found i e (take (close_len t) t) (UnexpectedArgument (span i.offset (e.offset - i.offset))) refl refl takes (λ h. h)
+    (subst (All (λ (b : ℕ). b ≢ 41)) piece (close_none t), (λ white. let f : true ≡ false = sym (white_to _ (subst WhiteSpace (sym piece) white)) ∙ black in cc), subst ClosesArgument (sym rest) (close_behind t))
 
 -- an operator that stands where an operand should stands there
 misplaced_stands : (p : Position) (op suggest : List ℕ) (q : Position) → IsMisplaced p op suggest q → after op p ≡ Some q
@@ -237,63 +173,30 @@ none_misplaced p no_and no_or no_AND no_OR no_ampersands no_pipes op suggest q i
     from misplaced_ampersands e = absurd cc
     from misplaced_pipes e = absurd cc
 
-pub binary_found : (i s : Input) (found : Found-operator) → s.text.now ≡ i.text.now → IsMisplaced (position_of s) found.op.now found.suggest.now (position_of found.end) → IsBehind s found.end
-    → Found i.text.now (ExprFoundBinaryOp (span s.offset (found.end.offset - s.offset)) found.op found.suggest)
-binary_found i s found same is b = record {
-  stands = record {
-    within = span_within i s found.end same b.text (omega (arith, b.end, b.shorter));
-    begins = begins_in i s same;
-    ends = ends_in i s found.end found.op.now same stands;
-    there = (piece_at i s found.end found.op.now same stands, is.suggested);
-  };
-  inside = refl;
-}
-  where
-    stands : after found.op.now (position_of s) ≡ Some (position_of found.end)
-    stands = misplaced_stands (position_of s) found.op.now found.suggest.now (position_of found.end) is
+pub binary_found : (i s r : Input) (op suggest : Bor (List ℕ)) → s.text.now ≡ i.text.now → IsMisplaced (position_of s) op.now suggest.now (position_of r) → Found i.text.now (ExprFoundBinaryOp (span s.offset (r.offset - s.offset)) op suggest)
+binary_found i s r op suggest same is =
+    let takes = after_takes op.now (position_of s) (position_of r) (misplaced_stands (position_of s) op.now suggest.now (position_of r) is) in
+    let fault = ExprFoundBinaryOp (span s.offset (r.offset - s.offset)) op suggest in
+    subst (λ (t : List ℕ). Found t fault) same (piece_found s r op.now fault refl refl takes (λ h. h) (piece_is s r op.now takes, is.suggested))
 
 pub unary_found : (i s r : Input) (op suggest : Bor (List ℕ)) → s.text.now ≡ i.text.now → Some (position_of r) ≡ after_word op.now (position_of s) → op.now ≡ codes "NOT"
-    → suggest.now ≡ codes "not" → IsBehind s r → Found i.text.now (ExprFoundUnaryOp (span s.offset (r.offset - s.offset)) op suggest)
-unary_found i s r op suggest same is not suggested b = record {
-  stands = record {
-    within = span_within i s r same b.text (omega (arith, b.end, b.shorter));
-    begins = begins_in i s same;
-    ends = ends_in i s r op.now same stands;
-    there = (piece_at i s r op.now same stands, not, suggested);
-  };
-  inside = refl;
-}
-  where
-    stands : after op.now (position_of s) ≡ Some (position_of r)
-    stands = word_after op.now (position_of s) (position_of r) (sym is)
+    → suggest.now ≡ codes "not" → Found i.text.now (ExprFoundUnaryOp (span s.offset (r.offset - s.offset)) op suggest)
+unary_found i s r op suggest same is not suggested =
+    let takes = (word_takes op.now (position_of s) (position_of r) (sym is)).0 in
+    let fault = ExprFoundUnaryOp (span s.offset (r.offset - s.offset)) op suggest in
+    subst (λ (t : List ℕ). Found t fault) same (piece_found s r op.now fault refl refl takes (λ h. h) (piece_is s r op.now takes, not, suggested))
 
-pub and_found : (s r : Input) → Some (None, position_of r) ≡ joiner_at (position_of s) → IsBehind s r → Found s.text.now (InvalidAndOperator (span s.offset (r.offset - s.offset)))
+pub and_found : (s r : Input) → Some (None, position_of r) ≡ joiner_at (position_of s) → Found s.text.now (InvalidAndOperator (span s.offset (r.offset - s.offset)))
 unfolding JoinerTaken
-and_found s r stands b =
+and_found s r stands =
     let j = joiner_takes (position_of s) (None, position_of r) (sym stands) in
-    record {
-      stands = record {
-        within = span_within s s r refl b.text (omega (arith, b.end, b.shorter));
-        begins = begins_here s;
-        ends = piece_ends s r j.0 j.2.parts j.2.offset;
-        there = subst InvalidAnd (sym (piece_is s r j.0 j.2)) j.1;
-      };
-      inside = refl;
-    }
+    piece_found s r j.0 (InvalidAndOperator (span s.offset (r.offset - s.offset))) refl refl j.2 (λ h. h) (subst InvalidAnd (sym (piece_is s r j.0 j.2)) j.1)
 
-pub or_found : (s r : Input) → Some (None, position_of r) ≡ or_at (position_of s) → IsBehind s r → Found s.text.now (InvalidOrOperator (span s.offset (r.offset - s.offset)))
+pub or_found : (s r : Input) → Some (None, position_of r) ≡ or_at (position_of s) → Found s.text.now (InvalidOrOperator (span s.offset (r.offset - s.offset)))
 unfolding OrTaken
-or_found s r stands b =
+or_found s r stands =
     let j = or_takes (position_of s) (None, position_of r) (sym stands) in
-    record {
-      stands = record {
-        within = span_within s s r refl b.text (omega (arith, b.end, b.shorter));
-        begins = begins_here s;
-        ends = piece_ends s r j.0 j.2.parts j.2.offset;
-        there = subst InvalidOr (sym (piece_is s r j.0 j.2)) j.1;
-      };
-      inside = refl;
-    }
+    piece_found s r j.0 (InvalidOrOperator (span s.offset (r.offset - s.offset))) refl refl j.2 (λ h. h) (subst InvalidOr (sym (piece_is s r j.0 j.2)) j.1)
 
 -- ---- where an operand may stand
 

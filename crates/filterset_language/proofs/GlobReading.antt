@@ -8,8 +8,8 @@ use Rattle.filterset_glob.specs.declared.fault.GlobRefusal.{GlobRefusal, TheVari
 use Rattle.filterset_faults.specs.{Span.span, declared.error.ParseSingleError.TheVariants.InvalidGlob}
 use Rattle.filterset_language.specs.Parsing.{Position.position_of, RawTexts.SpelledTo, Globs.glob_by, Globs.glob_in}
 use Rattle.filterset_language.specs.{Parsing.Recovery.Found, declared.parsing.input.Input.Input}
-use Rattle.filterset_language.proofs.RawTextFaults.{size, begins_here, piece_ends}
-use Rattle.filterset_language.proofs.PlatformArguments.{piece_spelled}
+use Rattle.filterset_language.proofs.RawTextFaults.{piece_found}
+use Rattle.filterset_language.proofs.PlatformArguments.{spelled_takes, piece_spelled}
 use Rattle.filterset_matchers.specs.Matcher.{Glob}
 
 -- a glob is read
@@ -31,12 +31,5 @@ of_fault r error P is holds = subst (λ (x : GlobRefusal). IfFault x P) is holds
 -- the fault of a text that is no glob
 pub glob_found : (i e : Input) (value : List ℕ) (error : GlobConstructError) → SpelledTo (position_of i) value (position_of e) → ((tokens : Tokens) → ¬ GlobText (chars value) tokens) → FaultStands (chars value) error
     → Found i.text.now (InvalidGlob (span i.offset (e.offset - i.offset)) error)
-glob_found i e value error s never stands = record {
-  stands = record {
-    within = let all = size i in let parts = ap length s.parts in omega (arith, parts, s.offset, length-append s.raw e.rest.now);
-    begins = begins_here i;
-    ends = piece_ends i e s.raw s.parts s.offset;
-    there = (value, piece_spelled i e value s, (λ tokens is. never tokens is), stands);
-  };
-  inside = refl;
-}
+glob_found i e value error s never stands =
+    piece_found i e s.raw (InvalidGlob (span i.offset (e.offset - i.offset)) error) refl refl (spelled_takes s) (λ h. h) (value, piece_spelled i e value s, (λ tokens is. never tokens is), stands)

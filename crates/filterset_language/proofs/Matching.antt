@@ -12,12 +12,12 @@ use Rattle.filterset_language.specs.Parsing.Position.{Position, position_of, ski
 use Rattle.filterset_language.specs.{Faults.EndsWith, Parsed.LiesOnBody}
 use Rattle.filterset_language.specs.Parsing.RawTexts.{raw_at, body_at, SpelledTo, BodyTaken}
 use Rattle.filterset_language.specs.Parsing.{PlatformNames.platform_in, Globs.glob_by}
-use Rattle.filterset_language.specs.Parsing.Descent.{◌>>=◌, made, sign_at, text_matcher_at, regex_at, matcher_at, between, matching_at, platform_at, bare_end_at, bare_at, default_at, argument_at, leaf_at}
+use Rattle.filterset_language.specs.Parsing.Descent.{◌>>=◌, made, sign_at, signed_text, text_matcher_at, regex_at, matcher_at, between, matching_at, platform_at, bare_end_at, bare_at, default_at, argument_at, leaf_at}
 use Rattle.filterset_language.specs.Parsing.Recovery.{Recovers, Found, Keeps, beside}
 use Rattle.filterset_language.specs.Parsing.Outcome.{Faults, Carried, comes, refused, reads, fails, MakesPattern, LiesOnPattern, GivesMatcher, GivesLeaf, GivesTree}
 use Rattle.filterset_language.specs.declared.parsing.input.Input.{Input}
-use Rattle.filterset_language.proofs.BodyReading.{body_piece, refused_body_found}
-use Rattle.filterset_language.proofs.Recovering.{bind_some, bind_none, recovers_then, recovers_along}
+use Rattle.filterset_language.proofs.BodyReading.{body_piece, regex_takes, refused_body_found}
+use Rattle.filterset_language.proofs.Recovering.{bind_some, bind_none, recovers_then, recovers_none, recovers_along}
 use Rattle.filterset_language.proofs.Outcomes.{carried_grows, gives_of, gives_then, gives_map, gives_pair}
 use Rattle.filterset_language.proofs.PlatformArguments.{with_blanks, platform_refused}
 use Rattle.filterset_language.proofs.StepsTakeText.{bind_is, is_some, skip_takes}
@@ -31,36 +31,30 @@ use Rattle.filterset_grammar.specs.declared.predicate.TextMatching.TheVariants a
 -- ---- regular expressions
 
 -- the pattern of a body, built or refused
-pub regex_gives : (i : Input) (f g h : Faults) (pattern : List ℕ) (at : SourceSpan) (q : Position) (v : Option Matcher) → Recovers f g (Some ((pattern, at), q)) (body_at (position_of i)) → BodyTaken (position_of i) pattern at q
-    → MakesPattern at g h v (Regex pattern) → GivesMatcher i.text.now f h v q (regex_at (position_of i))
-regex_gives i f g h pattern at q v a taken made =
-    ⊎_elim
-    (λ lt. fails (omega (arith, carried_grows MatcherIsRead _ g h v (Regex pattern) made)) (bind_none (body_at (position_of i)) _ (a.fault lt)))
-    (λ le.
-    let e = a.clean (omega (arith, a.grows)) in
-    let kept = subst (λ (x : Faults). MakesPattern at x h v (Regex pattern)) e.0 made in
-    reads (Regex pattern) (lies kept) (bind_some (body_at (position_of i)) ((pattern, at), q) _ e.1))
-    (cases_lt (length f) (length g))
+pub regex_gives : (i : Input) (f g : Faults) (pattern : List ℕ) (at : SourceSpan) (q : Position) (v : Option Matcher) → body_at (position_of i) ≡ Some ((pattern, at), q) → MakesPattern at f g v (Regex pattern) → GivesMatcher i.text.now f g v q (regex_at (position_of i))
+regex_gives i f g pattern at q v is made = reads (Regex pattern) (lies made) (bind_some (body_at (position_of i)) ((pattern, at), q) _ is)
   where
+    taken : BodyTaken (position_of i) pattern at q
+    taken = regex_takes (position_of i) pattern at q is
+
     ends : q.at ≡ at.offset + at.len + 1
     ends =
         let offset : at.offset ≡ i.offset = ap (λ (s : SourceSpan). s.offset) taken.span_is in
         let len : at.len ≡ length taken.body = ap (λ (s : SourceSpan). s.len) taken.span_is in
         omega (arith, taken.offset)
 
-    lies : MakesPattern at f h v (Regex pattern) → Carried MatcherIsRead (LiesOnPattern i.text.now q.at) f h v (Regex pattern)
+    lies : MakesPattern at f g v (Regex pattern) → Carried MatcherIsRead (LiesOnPattern i.text.now q.at) f g v (Regex pattern)
     lies (comes same is read) = comes same is read
     lies (refused added same some each none) =
         refused added same some (λ k d lt. record { at = at; is = (each k d lt).0; pattern = pattern; is_regex = refl; rejected = (each k d lt).1; body = body_piece i pattern at q taken; ends = ends }) none
 
 -- the faults of a refused pattern stand
-pub regex_keeps : (i : Input) (text : List ℕ) (f g h : Faults) (pattern : List ℕ) (at : SourceSpan) (q : Position) (v : Option Matcher) → i.text.now ≡ text → EndsWith (take i.offset i.text.now) (47 ∷ []) → BodyTaken (position_of i) pattern at q
-    → Keeps text f g → MakesPattern at g h v (Regex pattern) → Keeps text f h
-regex_keeps i text f g h pattern at q v same slash taken keeps (comes is value read) = subst (λ (x : Faults). Keeps text f x) (sym is) keeps
-regex_keeps i text f g h pattern at q v same slash taken keeps (refused added is some each none) = λ old.
-    let one : MayBeRejected pattern → Found text (InvalidRegexWithoutMessage at) =
-    λ rejected. subst (λ (t : List ℕ). Found t (InvalidRegexWithoutMessage at)) same (refused_body_found i pattern at q slash taken rejected) in
-    record { each = rw is (All-append (Found text) g added (keeps old).each (λ k d lt. subst (Found text) (sym (each k d lt).0) (one (each k d lt).1))) }
+pub regex_keeps : (i : Input) (f g : Faults) (pattern : List ℕ) (at : SourceSpan) (q : Position) (v : Option Matcher) → EndsWith (take i.offset i.text.now) (47 ∷ []) → body_at (position_of i) ≡ Some ((pattern, at), q)
+    → MakesPattern at f g v (Regex pattern) → Keeps i.text.now f g
+regex_keeps i f g pattern at q v slash is (comes same value read) = subst (λ (x : Faults). Keeps i.text.now f x) (sym same) (λ old. old)
+regex_keeps i f g pattern at q v slash is (refused added same some each none) = λ old.
+    let one = refused_body_found i pattern at q slash (regex_takes (position_of i) pattern at q is) in
+    record { each = rw same (All-append (Found i.text.now) f added old.each (λ k d lt. subst (Found i.text.now) (sym (each k d lt).0) (one (each k d lt).1))) }
 
 -- ---- texts
 
@@ -82,21 +76,22 @@ text_is_read predicate p q m e =
     let same : b.0 ≡ m = ap (λ (x : Matcher × Position). x.0) (is_some (b.0, a.0.1) (m, q) b.2) in
     subst MatcherIsRead same (made_is_read s.0 a.0.0 b.0 b.1)
 
-pub text_gives : (text : List ℕ) (predicate : Predicate) (p q : Position) (f g : Faults) (v : Option Matcher) → None ≡ after (codes "/") p → Recovers f g (beside q v) (text_matcher_at predicate p) → GivesMatcher text f g v q (matcher_at predicate p)
-text_gives text predicate p q f g v no_slash a = rw (← no_slash) (gives_of MatcherIsRead (LiesOnPattern text q.at) f g v q (text_matcher_at predicate p) a (λ m e. text_is_read predicate p q m e))
+text_gives : (text : List ℕ) (predicate : Predicate) (p s q : Position) (sign : TextMatching × Bool) (f g : Faults) (v : Option Matcher) → None ≡ after (codes "/") p → (sign, s) ≡ sign_at predicate p
+    → Recovers f g (beside q v) (signed_text (sign, s)) → GivesMatcher text f g v q (matcher_at predicate p)
+text_gives text predicate p s q sign f g v no_slash is a =
+    let signed : (TextMatching × Bool) × Position = (sign, s) in
+    let read = subst (λ (x : (TextMatching × Bool) × Position). Recovers f g (beside q v) (signed_text x)) is a in
+    rw (← no_slash) (gives_of MatcherIsRead (LiesOnPattern text q.at) f g v q (text_matcher_at predicate p) read (λ m e. text_is_read predicate p q m e))
 
 -- a value is made after a text that was read
-pub text_recovers : (f g h : Faults) (s : (TextMatching × Bool) × Position) (value : List ℕ) (q : Position) (v : Option Matcher) → Recovers f g (Some (value, q)) (raw_at s.1) → Recovers g h v (made s.0 value)
-    → Recovers f h (beside q v) (raw_at s.1 >>= λ x. made s.0 x.0 >>= λ m. Some (m, x.1))
-text_recovers f g h s value q v a b = recovers_then f g h (value, q) (beside q v) (raw_at s.1) (λ x. made s.0 x.0 >>= λ m. Some (m, x.1)) a (recovers_beside g h v q (made s.0 value) b)
+pub text_read : (text : List ℕ) (predicate : Predicate) (p s q : Position) (sign : TextMatching × Bool) (f g h : Faults) (value : List ℕ) (v : Option Matcher) → None ≡ after (codes "/") p → (sign, s) ≡ sign_at predicate p
+    → Recovers f g (Some (value, q)) (raw_at s) → Recovers g h v (made sign value) → GivesMatcher text f h v q (matcher_at predicate p)
+text_read text predicate p s q sign f g h value v no_slash is a b =
+    text_gives text predicate p s q sign f h v no_slash is (recovers_then f g h (value, q) (beside q v) (raw_at s) (λ x. made sign x.0 >>= λ m. Some (m, x.1)) a (recovers_beside v (made sign value) b))
   where
-    recovers_beside : (g h : Faults) (v : Option Matcher) (q : Position) (r : Option Matcher) → Recovers g h v r → Recovers g h (beside q v) (r >>= λ m. Some (m, q))
-    recovers_beside g h None q r b = record {
-      grows = b.grows;
-      clean = λ same. let e = b.clean same in absurd (let nothing : false ≡ true = e.2 in cc);
-      fault = λ more. bind_none r _ (b.fault more);
-    }
-    recovers_beside g h (Some m) q r b = record {
+    recovers_beside : (v r : Option Matcher) → Recovers g h v r → Recovers g h (beside q v) (r >>= λ m. Some (m, q))
+    recovers_beside None r b = recovers_none g h h r _ b (omega arith)
+    recovers_beside (Some m) r b = record {
       grows = b.grows;
       clean = λ same. let e = b.clean same in (e.0, bind_some r m _ e.1, refl);
       fault = λ more. bind_none r _ (b.fault more);

@@ -1,14 +1,14 @@
 -- One step after another, of a reader whose patterns may be refused.
 use Rattle.std.proofs.Common.{◌≡◌, ℕ, zero, suc, ◌+◌, ◌<◌, ◌≤◌, List, ◌++◌, length, false, true, Option, Some, None, refl, sym, ap, ◌∙◌, subst, arith, ⊎_elim, length-append, append_assoc}
 use Rattle.std.specs.{List.Contains, Option.option_map}
-use Rattle.std.proofs.lemmas.{Bool.cases_lt, List.Elements.All-append}
+use Rattle.std.proofs.lemmas.{Bool.cases_lt, List.Elements.All-append, List.Elements.Contains-append_left, List.Elements.Contains-append_right}
 use Rattle.filterset_faults.specs.declared.{error.ParseSingleError.ParseSingleError, span.SourceSpan.SourceSpan}
 use Rattle.filterset_language.specs.{Parsing.Position.Position, Parsing.Position.skip, Parsed.LiesOnBody}
 use Rattle.filterset_language.specs.Parsing.Descent.{Placed, ◌>>=◌, Reader, Next, Make, more, level_by}
 use Rattle.filterset_language.specs.Parsing.Recovery.{Recovers, Checked, beside, joined}
-use Rattle.filterset_language.specs.Parsing.Outcome.{Faults, Carried, comes, refused, Gives, reads, fails, Going, goes, failed}
+use Rattle.filterset_language.specs.Parsing.Outcome.{Faults, Carried, comes, refused, Gives, GivesTree, reads, fails, Going, goes, failed}
 use Rattle.filterset_language.proofs.{Recovering.bind_some, Recovering.bind_none, ReadingSteps.more_ends}
-use Rattle.filterset_grammar.specs.Tree.{Leaf, Tree, tree_leaves}
+use Rattle.filterset_grammar.specs.{Patterns.PatternsAreRead, Tree.Leaf, Tree.Tree, Tree.tree_leaves}
 
 abbrev Judgement : Type 0 → Type 1
 Judgement Y = Y → ParseSingleError → Type 0
@@ -30,23 +30,6 @@ pub carried_map : {Y Z : Type 0} (Good : Y → Type 0) (On : Judgement Y) (GoodT
 carried_map Good On GoodTo OnTo change good on f g v y (comes same is fine) = comes same (ap (option_map change) is) (good y fine)
 carried_map Good On GoodTo OnTo change good on f g v y (refused added same some each none) =
     refused added same some (λ k d lt. on y _ (each k d lt)) (ap (option_map change) none)
-
--- two values, and what is made of them
-pub carried_both : {X Y Z : Type 0} (GoodX : X → Type 0) (OnX : Judgement X) (GoodY : Y → Type 0) (OnY : Judgement Y) (Good : Z → Type 0) (On : Judgement Z) (make : X → Y → Z)
-    → ((x : X) (y : Y) → GoodX x → GoodY y → Good (make x y))
-    → ((x : X) (y : Y) (e : ParseSingleError) → OnX x e → On (make x y) e) → ((x : X) (y : Y) (e : ParseSingleError) → OnY y e → On (make x y) e)
-    → (f g h : Faults) (v : Option X) (w : Option Y) (x : X) (y : Y) → Carried GoodX OnX f g v x → Carried GoodY OnY g h w y
-    → Carried Good On f h (v >>= λ a. w >>= λ b. Some (make a b)) (make x y)
-carried_both GoodX OnX GoodY OnY Good On make good onx ony f g h v w x y (comes s i fine) (comes t j also) =
-    comes (t ∙ s) (rw (i, j) refl) (good x y fine also)
-carried_both GoodX OnX GoodY OnY Good On make good onx ony f g h v w x y (comes s i fine) (refused added t some each none) =
-    refused added (t ∙ ap (λ (z : Faults). z ++ added) s) some (λ k d lt. ony x y _ (each k d lt)) (rw (i, none) refl)
-carried_both GoodX OnX GoodY OnY Good On make good onx ony f g h v w x y (refused added s some each none) (comes t j also) =
-    refused added (t ∙ s) some (λ k d lt. onx x y _ (each k d lt)) (rw none refl)
-carried_both GoodX OnX GoodY OnY Good On make good onx ony f g h v w x y (refused a s some each none) (refused b t also all nothing) =
-    let size : length (a ++ b) ≡ length a + length b = length-append a b in
-    refused (a ++ b) (t ∙ ap (λ (z : Faults). z ++ b) s ∙ append_assoc f a b) (omega arith)
-    (All-append (On (make x y)) a b (λ k d lt. onx x y _ (each k d lt)) (λ k d lt. ony x y _ (all k d lt))) (rw none refl)
 
 -- ---- what a reader gives
 
@@ -99,50 +82,6 @@ module _ {Y Z : Type 0} (Good : Y → Type 0) (On : Judgement Y) (GoodTo : Z →
       reads (make y q) (subst (λ (z : Faults). Carried GoodTo OnTo f z (option_map (λ a. make a q) v) (make y q)) (sym e.0) kept) (bind_some r (y, q) _ is ∙ bind_some (s q) p _ e.1))
       (cases_lt (length g) (length h))
 
--- ---- the loop over the operators of a level
-
--- a turn of the loop: the operator, where one stands there
-pub more_by : {O : Type 0} (next : Next O) (make : Make O) (read : Reader) (m : ℕ) (e : Placed) (p s q : Position) (op : Option O) → 0 < length p.rest → length p.rest ≤ m → s ≡ skip p → Some (op, q) ≡ next s
-    → (k : ℕ) × (m ≡ suc k) × (more next make read m e p ≡ (op >>= λ o. read q >>= λ y. more next make read k (make o e y.0) y.1))
-more_by next make read zero e p s q op some le skipped stands = absurd (omega arith)
-more_by next make read (suc m) e p s q op some le skipped stands = (m, refl, rw (← skipped, ← stands) refl)
-
-module _ {O : Type 0} (next : Next O) (make : Make O) (read : Reader) (Good : Placed → Type 0) (On : Judgement Placed)
-    (good : (o : O) (l r : Placed) → Good l → Good r → Good (make o l r))
-    (on_left : (o : O) (l r : Placed) (x : ParseSingleError) → On l x → On (make o l r) x)
-    (on_right : (o : O) (l r : Placed) (x : ParseSingleError) → On r x → On (make o l r) x) where
-  pub going_start : (f g : Faults) (left : Option Placed) (p q : Position) → Gives Good On f g left q (read p) → Going next make Good On f g left q read (level_by next make read p)
-  going_start f g left p q (reads e c is) = goes e c (length q.rest) (omega arith) (sym (bind_some (read p) (e, q) _ is))
-  going_start f g left p q (fails lt none) = failed lt (bind_none (read p) _ none)
-
-  going_on : (f g h : Faults) (left right : Option Placed) (op : O) (p s q r : Position) (total : Option (Placed × Position)) → length r.rest < length p.rest → s ≡ skip p → Some (Some op, q) ≡ next s
-      → Going next make Good On f g left p read total → Gives Good On g h right r (read q) → Going next make Good On f h (joined make (Some op) left right) r read total
-  going_on f g h left right op p s q r total lt skipped stands (failed more none) b = failed (omega (arith, gives_grows Good On g h right r (read q) b)) none
-  going_on f g h left right op p s q r total lt skipped stands (goes e c m le is) (fails more none) =
-      let n = more_by next make read m e p s q (Some op) (omega arith) le skipped stands in
-      failed (omega (arith, carried_grows Good On f g left e c)) (sym is ∙ n.2 ∙ bind_none (read q) _ none)
-  going_on f g h left right op p s q r total lt skipped stands (goes e c m le is) (reads y d at) =
-      let n = more_by next make read m e p s q (Some op) (omega arith) le skipped stands in
-      let long : length r.rest ≤ n.0 = omega (arith, n.1) in
-      goes (make op e y) (carried_both Good On Good On Good On (make op) (good op) (on_left op) (on_right op) f g h left right e y c d) n.0 long (sym (bind_some (read q) (y, r) _ at) ∙ sym n.2 ∙ is)
-
-  going_wrong : (f g i : Faults) (left : Option Placed) (p s q r : Position) (total : Option (Placed × Position)) → 0 < length p.rest → s ≡ skip p → Some (None, q) ≡ next s
-      → Going next make Good On f g left p read total → length g < length i → Going next make Good On f i None r read total
-  going_wrong f g i left p s q r total some skipped stands (failed more none) lt = failed (omega arith) none
-  going_wrong f g i left p s q r total some skipped stands (goes e c m le is) lt =
-      let n = more_by next make read m e p s q None some le skipped stands in failed (omega (arith, carried_grows Good On f g left e c)) (sym is ∙ n.2)
-
-  pub going_by : (f g h i : Faults) (left right : Option Placed) (op : Option O) (p s q r : Position) (total : Option (Placed × Position)) → length r.rest < length p.rest → s ≡ skip p → Some (op, q) ≡ next s
-      → Going next make Good On f g left p read total → Checked op g h → Gives Good On h i right r (read q) → Going next make Good On f i (joined make op left right) r read total
-  going_by f g h i left right (Some op) p s q r total lt skipped stands a checked b =
-      going_on f g i left right op p s q r total lt skipped stands a (subst (λ (x : Faults). Gives Good On x i right r (read q)) checked b)
-  going_by f g h i left right None p s q r total lt skipped stands a checked b =
-      going_wrong f g i left p s q r total (omega arith) skipped stands a (omega (arith, checked, gives_grows Good On h i right r (read q) b))
-
-  pub going_end : (f g : Faults) (left : Option Placed) (p s : Position) (total : Option (Placed × Position)) → s ≡ skip p → None ≡ next s → Going next make Good On f g left p read total → Gives Good On f g left p total
-  going_end f g left p s total skipped none (failed more is) = fails more is
-  going_end f g left p s total skipped none (goes e c m le is) = reads e c (sym is ∙ more_ends next make read m e p (sym (none ∙ ap next skipped)))
-
 -- ---- bodies of a tree
 
 -- a body of a part of the tree is one of the tree
@@ -158,3 +97,66 @@ lies_in text d e x part lies = record {
   body = lies.body;
   end = lies.end;
 }
+
+-- ---- the loop over the operators of a level
+
+-- a turn of the loop: the operator, where one stands there
+pub more_by : {O : Type 0} (next : Next O) (make : Make O) (read : Reader) (m : ℕ) (e : Placed) (p s q : Position) (op : Option O) → 0 < length p.rest → length p.rest ≤ m → s ≡ skip p → Some (op, q) ≡ next s
+    → (k : ℕ) × (m ≡ suc k) × (more next make read m e p ≡ (op >>= λ o. read q >>= λ y. more next make read k (make o e y.0) y.1))
+more_by next make read zero e p s q op some le skipped stands = absurd (omega arith)
+more_by next make read (suc m) e p s q op some le skipped stands = (m, refl, rw (← skipped, ← stands) refl)
+
+module _ {O : Type 0} (next : Next O) (make : Make O) (read : Reader) (text : List ℕ)
+    (good : (o : O) (l r : Placed) → PatternsAreRead l → PatternsAreRead r → PatternsAreRead (make o l r))
+    (leaves : (o : O) (l r : Placed) → tree_leaves (make o l r) ≡ tree_leaves l ++ tree_leaves r) where
+  -- the two sides of an operator hold their bodies
+  on_left : (o : O) (l r : Placed) (x : ParseSingleError) → LiesOnBody text l x → LiesOnBody text (make o l r) x
+  on_left o l r x lies = lies_in text l (make o l r) x (λ leaf is. rw (leaves o l r) (Contains-append_left (tree_leaves l) (tree_leaves r) leaf is)) lies
+
+  on_right : (o : O) (l r : Placed) (x : ParseSingleError) → LiesOnBody text r x → LiesOnBody text (make o l r) x
+  on_right o l r x lies = lies_in text r (make o l r) x (λ leaf is. rw (leaves o l r) (Contains-append_right (tree_leaves l) (tree_leaves r) leaf is)) lies
+
+  -- two operands, and what is made of them
+  carried_both : (o : O) (f g h : Faults) (v w : Option Placed) (x y : Placed) → Carried PatternsAreRead (LiesOnBody text) f g v x → Carried PatternsAreRead (LiesOnBody text) g h w y
+      → Carried PatternsAreRead (LiesOnBody text) f h (v >>= λ a. w >>= λ b. Some (make o a b)) (make o x y)
+  carried_both o f g h v w x y (comes s i fine) (comes t j also) = comes (t ∙ s) (rw (i, j) refl) (good o x y fine also)
+  carried_both o f g h v w x y (comes s i fine) (refused added t some each none) =
+      refused added (t ∙ ap (λ (z : Faults). z ++ added) s) some (λ k d lt. on_right o x y _ (each k d lt)) (rw (i, none) refl)
+  carried_both o f g h v w x y (refused added s some each none) (comes t j also) =
+      refused added (t ∙ s) some (λ k d lt. on_left o x y _ (each k d lt)) (rw none refl)
+  carried_both o f g h v w x y (refused a s some each none) (refused b t also all nothing) =
+      let size : length (a ++ b) ≡ length a + length b = length-append a b in
+      refused (a ++ b) (t ∙ ap (λ (z : Faults). z ++ b) s ∙ append_assoc f a b) (omega arith)
+      (All-append (LiesOnBody text (make o x y)) a b (λ k d lt. on_left o x y _ (each k d lt)) (λ k d lt. on_right o x y _ (all k d lt))) (rw none refl)
+
+  pub going_start : (f g : Faults) (left : Option Placed) (p q : Position) → GivesTree text f g left q (read p) → Going next make text f g left q read (level_by next make read p)
+  going_start f g left p q (reads e c is) = goes e c (length q.rest) (omega arith) (sym (bind_some (read p) (e, q) _ is))
+  going_start f g left p q (fails lt none) = failed lt (bind_none (read p) _ none)
+
+  going_on : (f g h : Faults) (left right : Option Placed) (op : O) (p s q r : Position) (total : Option (Placed × Position)) → length r.rest < length p.rest → s ≡ skip p → Some (Some op, q) ≡ next s
+      → Going next make text f g left p read total → GivesTree text g h right r (read q) → Going next make text f h (joined make (Some op) left right) r read total
+  going_on f g h left right op p s q r total lt skipped stands (failed more none) b = failed (omega (arith, gives_grows PatternsAreRead (LiesOnBody text) g h right r (read q) b)) none
+  going_on f g h left right op p s q r total lt skipped stands (goes e c m le is) (fails more none) =
+      let n = more_by next make read m e p s q (Some op) (omega arith) le skipped stands in
+      failed (omega (arith, carried_grows PatternsAreRead (LiesOnBody text) f g left e c)) (sym is ∙ n.2 ∙ bind_none (read q) _ none)
+  going_on f g h left right op p s q r total lt skipped stands (goes e c m le is) (reads y d at) =
+      let n = more_by next make read m e p s q (Some op) (omega arith) le skipped stands in
+      let long : length r.rest ≤ n.0 = omega (arith, n.1) in
+      goes (make op e y) (carried_both op f g h left right e y c d) n.0 long (sym (bind_some (read q) (y, r) _ at) ∙ sym n.2 ∙ is)
+
+  going_wrong : (f g i : Faults) (left : Option Placed) (p s q r : Position) (total : Option (Placed × Position)) → 0 < length p.rest → s ≡ skip p → Some (None, q) ≡ next s
+      → Going next make text f g left p read total → length g < length i → Going next make text f i None r read total
+  going_wrong f g i left p s q r total some skipped stands (failed more none) lt = failed (omega arith) none
+  going_wrong f g i left p s q r total some skipped stands (goes e c m le is) lt =
+      let n = more_by next make read m e p s q None some le skipped stands in failed (omega (arith, carried_grows PatternsAreRead (LiesOnBody text) f g left e c)) (sym is ∙ n.2)
+
+  pub going_by : (f g h i : Faults) (left right : Option Placed) (op : Option O) (p s q r : Position) (total : Option (Placed × Position)) → length r.rest < length p.rest → s ≡ skip p → Some (op, q) ≡ next s
+      → Going next make text f g left p read total → Checked op g h → GivesTree text h i right r (read q) → Going next make text f i (joined make op left right) r read total
+  going_by f g h i left right (Some op) p s q r total lt skipped stands a checked b =
+      going_on f g i left right op p s q r total lt skipped stands a (subst (λ (x : Faults). GivesTree text x i right r (read q)) checked b)
+  going_by f g h i left right None p s q r total lt skipped stands a checked b =
+      going_wrong f g i left p s q r total (omega arith) skipped stands a (omega (arith, checked, gives_grows PatternsAreRead (LiesOnBody text) h i right r (read q) b))
+
+  pub going_end : (f g : Faults) (left : Option Placed) (p s : Position) (total : Option (Placed × Position)) → s ≡ skip p → None ≡ next s → Going next make text f g left p read total → GivesTree text f g left p total
+  going_end f g left p s total skipped none (failed more is) = fails more is
+  going_end f g left p s total skipped none (goes e c m le is) = reads e c (sym is ∙ more_ends next make read m e p (sym (none ∙ ap next skipped)))

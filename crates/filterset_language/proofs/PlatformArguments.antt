@@ -16,7 +16,7 @@ use Rattle.filterset_language.specs.{Parsing.Recovery.Found, declared.parsing.in
 use Rattle.filterset_language.proofs.{Positions.skip_again, ClosingParenthesis.ends_stop}
 use Rattle.filterset_language.proofs.StepsTakeText.{Takes, blank_front, return_front}
 use Rattle.filterset_language.proofs.RawTexts.{text_again, spelled_none}
-use Rattle.filterset_language.proofs.RawTextFaults.{size, begins_here, piece_ends}
+use Rattle.filterset_language.proofs.RawTextFaults.{piece_is, piece_found}
 use Rattle.filterset_language.proofs.WhiteSpaceTest.{IsWhite, white_skipped, white_scalars}
 use Rattle.filterset_language.proofs.Trimming.{start_trimmed, scalars_append, names_utf8, names_trimmed, trimmed_names, platform_again}
 use Rattle.filterset_grammar.specs.Text.{Blanks, no_blank, space, newline, return_newline, is_plain, Spelled, nothing, plain, escaped, WhiteSpace}
@@ -191,27 +191,15 @@ with_blanks {b} p q r v are takes s = record {
 
 -- ---- faults of a whole raw text
 
+pub spelled_takes : {p q : Position} {v : List ℕ} (s : SpelledTo p v q) → Takes p s.raw q
+spelled_takes s = record { parts = s.parts; offset = s.offset }
+
 pub piece_spelled : (a b : Input) (v : List ℕ) → SpelledTo (position_of a) v (position_of b) → Spelled (take (b.offset - a.offset) (drop a.offset a.text.now)) v
-piece_spelled a b v s =
-    let n : b.offset - a.offset ≡ length s.raw = omega (arith, s.offset) in
-    let cut : take (b.offset - a.offset) (drop a.offset a.text.now) ≡ s.raw =
-    ap (λ (k : ℕ). take k (drop a.offset a.text.now)) n ∙ ap (take (length s.raw)) (a.seam.onward ∙ s.parts) ∙ take_at s.raw b.rest.now (length s.raw) refl
-    in
-    subst (λ (y : List ℕ). Spelled y v) (sym cut) s.spelled
+piece_spelled a b v s = subst (λ (y : List ℕ). Spelled y v) (sym (piece_is a b s.raw (spelled_takes s))) s.spelled
 
 -- an argument that names no platform, from after its parenthesis on
 pub platform_refused : {blanks : List ℕ} (i b : Input) (v : List ℕ) → Blanks blanks → SpelledTo (position_of i) (blanks ++ v) (position_of b) → ((p : BuildPlatform) → Names v p → ⊥)
     → Found i.text.now (InvalidPlatformArgument (span i.offset (b.offset - i.offset)))
-platform_refused {blanks} i b v are s none = record {
-  stands = record {
-    within = let e = size i in let f = ap length s.parts in omega (arith, f, s.offset, length-append s.raw b.rest.now);
-    begins = begins_here i;
-    ends = piece_ends i b s.raw s.parts s.offset;
-    there = (
-      blanks ++ v,
-      piece_spelled i b (blanks ++ v) s,
-      λ p names. none p (names_behind are v p names),
-    );
-  };
-  inside = refl;
-}
+platform_refused {blanks} i b v are s none =
+    piece_found i b s.raw (InvalidPlatformArgument (span i.offset (b.offset - i.offset))) refl refl (spelled_takes s) (λ h. h)
+    (blanks ++ v, piece_spelled i b (blanks ++ v) s, λ p names. none p (names_behind are v p names))

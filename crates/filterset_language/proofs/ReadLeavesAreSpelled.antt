@@ -23,7 +23,7 @@ use Rattle.filterset_language.proofs.WhiteSpaceTest.{white_from}
 use Rattle.filterset_language.proofs.ClosingParenthesis.{close_within, ends_stop}
 use Rattle.filterset_language.proofs.{SpelledIsNotEmpty.span_same, RawTexts.text_takes, BodyReading.regex_takes}
 use Rattle.filterset_language.proofs.Trimming.{platform_takes}
-use Rattle.filterset_language.proofs.PlatformArguments.{names_before, with_blanks}
+use Rattle.filterset_language.proofs.PlatformArguments.{names_before, spelled_takes, with_blanks}
 use Rattle.filterset_language.proofs.StepsTakeText.{bind_is, choose_is, is_some, Takes, Takes-then, skip_takes, after_takes}
 use Rattle.filterset_matchers.specs.Matcher.{Matcher, Equal, Contains, Glob, Regex}
 use Rattle.filterset_grammar.specs.Tree as tree
@@ -150,16 +150,13 @@ made_is how implicit p x e =
 text_behind : {how : TextMatching} {implicit : Bool} {p : Position} {m : Matcher} {q : Position} → Made how implicit p m q → (t : List ℕ) → Takes q t (skip q) → BehindMatcher m t
 text_behind {how} {implicit} {p} {m} {q} is t takes = subst (BehindMatcher m) (sym (no_blanks q t is.text.ends takes)) (made_short how implicit is.value m is.is)
 
-raw_takes : {p : Position} {value : List ℕ} {q : Position} (t : TextTaken p value q) → Takes p t.spelled.raw q
-raw_takes t = record { parts = t.spelled.parts; offset = t.spelled.offset }
-
 signed_takes : (predicate : Predicate) (how : TextMatching) (p i : Position) (x : Matcher × Position) → Takes p (matching_sign how ∷ []) i → signed_text ((how, false), i) ≡ Some x → MatcherTaken predicate p x.0 x.1
 signed_takes predicate how p i x front e =
     let is = made_is how false i x e in
     let t = is.text.spelled in
     record {
       raw = matching_sign how ∷ t.raw;
-      takes = Takes-then p i x.1 (matching_sign how ∷ []) t.raw front (raw_takes is.text);
+      takes = Takes-then p i x.1 (matching_sign how ∷ []) t.raw front (spelled_takes t);
       text = grammar.signed how is.value t.spelled (λ e. absurd (omega (arith, ap length e, is.text.some))) (made_matches how false is.value x.0 is.is);
       behind = λ blanks are takes. text_behind is blanks takes;
     }
@@ -168,7 +165,7 @@ implicit_takes : (predicate : Predicate) (p : Position) (x : Matcher × Position
 implicit_takes predicate p x unsigned e =
     let is = made_is (own_matching predicate) true p x e in
     let t = is.text.spelled in
-    let takes = raw_takes is.text in
+    let takes = spelled_takes t in
     record {
       raw = t.raw;
       takes = takes;
@@ -285,7 +282,7 @@ platform_text_takes i j value q e is =
     let t = with_blanks i (skip i) j value k.are k.takes read.spelled in
     record {
       raw = t.raw;
-      takes = record { parts = t.parts; offset = t.offset };
+      takes = spelled_takes t;
       value = k.blanks ++ value;
       spelled = t.spelled;
       names = names_before k.are value q (platform_takes value q is);

@@ -1,11 +1,11 @@
 -- One step of reading an expression.
 use Rattle.std.proofs.Common.{◌≡◌, ℕ, zero, suc, ◌<◌, ◌≤◌, List, length, Option, Some, None, true, refl, sym, ◌∙◌, subst, arith}
 use Rattle.std.specs.Prelude.{codes, is_some}
-use Rattle.filterset_grammar.specs.{declared.operators.NotOperator.NotOperator, Tree.Not, Tree.Parens}
+use Rattle.filterset_grammar.specs.declared.operators.NotOperator.{NotOperator}
 use Rattle.filterset_language.specs.{declared.parsing.names.PredicateName.PredicateName, Parsing.Recovery.NoOperand}
 use Rattle.filterset_language.specs.Parsing.Position.{Position, position, skip, after}
 use Rattle.filterset_language.specs.Parsing.Words.{not_at, name_at}
-use Rattle.filterset_language.specs.Parsing.Descent.{Placed, ◌>>=◌, Reader, Next, Make, operand_at, set_at, or_level_by, more}
+use Rattle.filterset_language.specs.Parsing.Descent.{Placed, Reader, Next, Make, operand_at, set_at, negated_by, enclosed_by, more}
 use Rattle.filterset_language.proofs.StepsTakeText.{after_takes}
 
 -- the bound for what is nested
@@ -20,12 +20,12 @@ less (suc n) inner outer lt le = record { by = n; is = refl; holds = omega arith
 
 -- the step that the code takes, after a negation and after an opening parenthesis
 pub negation_step : (n : ℕ) (p s q : Position) (op : NotOperator) → s ≡ skip p → None ≡ name_at s → Some (op, q) ≡ not_at s
-    → operand_at (suc n) p ≡ (operand_at n q >>= λ e. Some (Not op e.0, e.1))
+    → operand_at (suc n) p ≡ negated_by op (operand_at n) q
 unfolding operand_at
 negation_step n p s q op skipped no_name stands = rw (← skipped, ← no_name, ← stands) refl
 
 pub parens_step : (n : ℕ) (p s q : Position) → s ≡ skip p → None ≡ name_at s → None ≡ not_at s → Some q ≡ after (codes "(") s
-    → operand_at (suc n) p ≡ (or_level_by (operand_at n) q >>= λ e. after (codes ")") (skip e.1) >>= λ r. Some (Parens e.0, r))
+    → operand_at (suc n) p ≡ enclosed_by (operand_at n) q
 unfolding operand_at
 parens_step n p s q skipped no_name no_not stands = rw (← skipped, ← no_name, ← no_not, ← stands) refl
 
@@ -51,7 +51,7 @@ caret_step n p stands = from (after (codes "^") (skip p)) refl stands
           no_open = subst (λ (t : List ℕ). None ≡ after (codes "(") (position at t)) rest refl;
         }))
 
-pub name_step : (n : ℕ) (p s q : Position) (name : PredicateName) → s ≡ skip p → Some (name, q) ≡ name_at s → set_at name s.at q ≡ operand_at (suc n) p
+pub name_step : (n : ℕ) (p s q : Position) (name : PredicateName) → s ≡ skip p → Some (name, q) ≡ name_at s → operand_at (suc n) p ≡ set_at name s.at q
 unfolding operand_at
 name_step n p s q name skipped stands = rw (← skipped, ← stands) refl
 

@@ -1,10 +1,10 @@
 -- One step after another, of a reader that goes on after a fault.
-use Rattle.std.proofs.Common.{◌≡◌, ℕ, ◌+◌, ◌<◌, ◌≤◌, List, [], ◌∷◌, ◌++◌, length, false, Option, Some, None, Result, Ok, Err, refl, ap, ◌∙◌, subst, arith, ⊎_elim, length-append}
-use Rattle.std.specs.Prelude.{is_some, IfOk, MatchOption}
+use Rattle.std.proofs.Common.{◌≡◌, ℕ, ◌+◌, ◌<◌, ◌≤◌, List, [], ◌∷◌, ◌++◌, length, false, true, Option, Some, None, Result, Ok, Err, refl, ap, ◌∙◌, subst, arith, ⊎_elim, length-append}
+use Rattle.std.specs.Prelude.{is_some, IfOk}
 use Rattle.std.proofs.lemmas.{Bool.cases_lt, List.Elements.All-append, List.Elements.All-cons, List.Elements.All-nil}
 use Rattle.filterset_faults.specs.declared.error.ParseSingleError.{ParseSingleError}
-use Rattle.filterset_language.specs.Parsing.{Descent.◌>>=◌, Escapes.escape_at, Position.Position, Position.advanced}
-use Rattle.filterset_language.specs.Parsing.Recovery.{Recovers, Found, Keeps, Passes}
+use Rattle.filterset_language.specs.Parsing.Descent.{◌>>=◌}
+use Rattle.filterset_language.specs.Parsing.Recovery.{Recovers, Found, Keeps}
 use Rattle.filterset_language.specs.Parsing.Outcome.{Faults}
 
 pub bind_some : {A B : Type 0} (r : Option A) (x : A) (k : A → Option B) → r ≡ Some x → (r >>= k) ≡ k x
@@ -25,6 +25,18 @@ recovers_then f g h x y r k a b = record {
       ⊎_elim
       (λ lt. bind_none r k (a.fault lt))
       (λ le. bind_some r x k (a.clean (omega (arith, a.grows))).1 ∙ b.fault (omega (arith, a.grows)))
+      (cases_lt (length f) (length g));
+}
+
+-- the first step gave nothing
+pub recovers_none : {X Y : Type 0} (f g h : Faults) (r : Option X) (k : X → Option Y) → Recovers f g None r → length g ≤ length h → Recovers f h None (r >>= k)
+recovers_none f g h r k a le = record {
+  grows = omega (arith, a.grows);
+  clean = λ same. absurd (let e : false ≡ true = (a.clean (omega (arith, a.grows))).2 in cc);
+  fault = λ more.
+      ⊎_elim
+      (λ lt. bind_none r k (a.fault lt))
+      (λ ge. absurd (let e : false ≡ true = (a.clean (omega (arith, a.grows))).2 in cc))
       (cases_lt (length f) (length g));
 }
 
@@ -75,11 +87,3 @@ recovers_along old f x r same e =
 
 pub keeps_from : (t : List ℕ) (old f g : Faults) → f ≡ old → Keeps t f g → Keeps t old g
 keeps_from t old f g same k = subst (λ (x : Faults). Keeps t x g) same k
-
--- after what was passed no fault is gone
-pub passes_grows : (p q : Position) (f g : Faults) → Passes p q f g → length f ≤ length g
-passes_grows p q f g passes = from (escape_at p.rest) passes
-  where
-    from : (o : Option (ℕ × ℕ)) → MatchOption o ((q ≡ p) × (length f < length g)) (λ e. (q ≡ advanced e.1 p) × (g ≡ f)) → length f ≤ length g
-    from None x = let more = x.1 in omega arith
-    from (Some e) x = let same = ap length x.1 in omega arith

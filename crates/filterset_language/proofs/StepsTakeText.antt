@@ -5,7 +5,7 @@ use Rattle.std.specs.{Option.option_map, Option.option_and_then, Prelude.codes, 
 pub use Rattle.std.proofs.lemmas.Option.{same_Some as is_some}
 use Rattle.filterset_language.specs.Parsing.Front.{blank_len}
 use Rattle.filterset_language.specs.Parsing.Position.{Position, position, skip_from, after, after_word, behind, if_ends}
-use Rattle.filterset_language.specs.Parsing.Words.{choose, not_at, joiner_at, or_at, first_byte, named, either, name_at, name_text}
+use Rattle.filterset_language.specs.Parsing.Words.{choose, with, not_at, joiner_at, or_at, first_byte, named, either, name_at, name_text}
 use Rattle.filterset_language.specs.Faults.{InvalidAnd, ampersands, capital_and, InvalidOr, pipes, capital_or}
 use Rattle.filterset_language.specs.{declared.parsing.names.PredicateName.PredicateName, Parsing.Descent.◌>>=◌}
 use Rattle.filterset_grammar.specs.Grammar.{not_text, join_text, or_text, not_ends, join_ends, or_ends}
@@ -123,15 +123,21 @@ word_takes w p q e = from (after w p) refl e
     from None h e = absurd cc
     from (Some r) h e = let s = if_ends_is r q e in (subst (λ (x : Position). Takes p w x) s.0 (after_takes w p r h), s.1)
 
+-- what holds of the first choice, where it is there, and of the others holds of what is chosen
+choose_takes : {X : Type 0} (P : X × Position → Type 0) (o : Option Position) (x : X) (d : Option (X × Position)) → ((q : Position) → o ≡ Some q → P (x, q)) → ((y : X × Position) → d ≡ Some y → P y)
+    → (y : X × Position) → choose o (with x) d ≡ Some y → P y
+choose_takes P (Some q) x d first others y e = subst P (is_some (x, q) y e) (first q refl)
+choose_takes P None x d first others y e = others y e
+
+-- the last choice
+last_takes : {X : Type 0} (P : X × Position → Type 0) (o : Option Position) (x : X) → ((q : Position) → o ≡ Some q → P (x, q)) → (y : X × Position) → choose o (with x) None ≡ Some y → P y
+last_takes P o x first y e = choose_takes P o x None first (λ z none. absurd cc) y e
+
 pub not_takes : (p : Position) (x : NotOperator × Position) → not_at p ≡ Some x → Takes p (not_text x.0) x.1 × not_ends x.0 x.1.rest
 not_takes p x e =
-    ⊎_elim
-    (λ a. let w = word_takes (codes "not") p a.0 a.1 in subst (λ (y : NotOperator × Position). Takes p (not_text y.0) y.1 × not_ends y.0 y.1.rest) (is_some (LiteralNot, a.0) x a.2) w)
-    (λ b. ⊎_elim
-    (λ a. subst (λ (y : NotOperator × Position). Takes p (not_text y.0) y.1 × not_ends y.0 y.1.rest) (is_some (Exclamation, a.0) x a.2) (after_takes (codes "!") p a.0 a.1, tt))
-    (λ c. absurd (let n : None ≡ Some x = c.1 in cc))
-    (choose_is _ _ _ x b.1))
-    (choose_is _ _ _ x e)
+    let P : NotOperator × Position → Type 0 = λ y. Takes p (not_text y.0) y.1 × not_ends y.0 y.1.rest in
+    choose_takes P (after_word (codes "not") p) LiteralNot _ (word_takes (codes "not") p)
+    (last_takes P (after (codes "!") p) Exclamation (λ q is. (after_takes (codes "!") p q is, tt))) x e
 
 -- an operator of the level of `and`, and what stands after it
 unfoldable pub JoinerTaken : Position → Option Joiner × Position → Type 0
@@ -142,25 +148,12 @@ pub joiner_takes : (p : Position) (x : Option Joiner × Position) → joiner_at 
 unfolding JoinerTaken
 joiner_takes p x e =
     let P : Option Joiner × Position → Type 0 = λ y. JoinerTaken p y in
-    ⊎_elim
-    (λ a. subst P (is_some (None, a.0) x a.2) (codes "&&", ampersands, after_takes (codes "&&") p a.0 a.1))
-    (λ b. ⊎_elim
-    (λ a. subst P (is_some (None, a.0) x a.2) (codes "AND", capital_and, (word_takes (codes "AND") p a.0 a.1).0))
-    (λ c. ⊎_elim
-    (λ a. subst P (is_some (Some (Both LiteralAnd), a.0) x a.2) (word_takes (codes "and") p a.0 a.1))
-    (λ d. ⊎_elim
-    (λ a. subst P (is_some (Some (Both Ampersand), a.0) x a.2) (after_takes (codes "&") p a.0 a.1, tt))
-    (λ f. ⊎_elim
-    (λ a. subst P (is_some (Some (Without Minus), a.0) x a.2) (after_takes (codes "-") p a.0 a.1, tt))
-    (λ g. ⊎_elim
-    (λ a. subst P (is_some (Some (ExactlyOne Caret), a.0) x a.2) (after_takes (codes "^") p a.0 a.1, tt))
-    (λ h. absurd (let n : None ≡ Some x = h.1 in cc))
-    (choose_is _ _ _ x g.1))
-    (choose_is _ _ _ x f.1))
-    (choose_is _ _ _ x d.1))
-    (choose_is _ _ _ x c.1))
-    (choose_is _ _ _ x b.1))
-    (choose_is _ _ _ x e)
+    choose_takes P (after (codes "&&") p) None _ (λ q is. (codes "&&", ampersands, after_takes (codes "&&") p q is))
+    (choose_takes P (after_word (codes "AND") p) None _ (λ q is. (codes "AND", capital_and, (word_takes (codes "AND") p q is).0))
+    (choose_takes P (after_word (codes "and") p) (Some (Both LiteralAnd)) _ (word_takes (codes "and") p)
+    (choose_takes P (after (codes "&") p) (Some (Both Ampersand)) _ (λ q is. (after_takes (codes "&") p q is, tt))
+    (choose_takes P (after (codes "-") p) (Some (Without Minus)) _ (λ q is. (after_takes (codes "-") p q is, tt))
+    (last_takes P (after (codes "^") p) (Some (ExactlyOne Caret)) (λ q is. (after_takes (codes "^") p q is, tt))))))) x e
 
 -- an operator of the level of `or`, and what stands after it
 unfoldable pub OrTaken : Position → Option OrOperator × Position → Type 0
@@ -171,22 +164,11 @@ pub or_takes : (p : Position) (x : Option OrOperator × Position) → or_at p �
 unfolding OrTaken
 or_takes p x e =
     let P : Option OrOperator × Position → Type 0 = λ y. OrTaken p y in
-    ⊎_elim
-    (λ a. subst P (is_some (None, a.0) x a.2) (codes "||", pipes, after_takes (codes "||") p a.0 a.1))
-    (λ b. ⊎_elim
-    (λ a. subst P (is_some (None, a.0) x a.2) (codes "OR", capital_or, (word_takes (codes "OR") p a.0 a.1).0))
-    (λ c. ⊎_elim
-    (λ a. subst P (is_some (Some LiteralOr, a.0) x a.2) (word_takes (codes "or") p a.0 a.1))
-    (λ d. ⊎_elim
-    (λ a. subst P (is_some (Some Pipe, a.0) x a.2) (after_takes (codes "|") p a.0 a.1, tt))
-    (λ f. ⊎_elim
-    (λ a. subst P (is_some (Some Plus, a.0) x a.2) (after_takes (codes "+") p a.0 a.1, tt))
-    (λ g. absurd (let n : None ≡ Some x = g.1 in cc))
-    (choose_is _ _ _ x f.1))
-    (choose_is _ _ _ x d.1))
-    (choose_is _ _ _ x c.1))
-    (choose_is _ _ _ x b.1))
-    (choose_is _ _ _ x e)
+    choose_takes P (after (codes "||") p) None _ (λ q is. (codes "||", pipes, after_takes (codes "||") p q is))
+    (choose_takes P (after_word (codes "OR") p) None _ (λ q is. (codes "OR", capital_or, (word_takes (codes "OR") p q is).0))
+    (choose_takes P (after_word (codes "or") p) (Some LiteralOr) _ (word_takes (codes "or") p)
+    (choose_takes P (after (codes "|") p) (Some Pipe) _ (λ q is. (after_takes (codes "|") p q is, tt))
+    (last_takes P (after (codes "+") p) (Some Plus) (λ q is. (after_takes (codes "+") p q is, tt)))))) x e
 
 -- ---- predicates' names
 
@@ -195,46 +177,29 @@ abbrev NameTaken : Position → PredicateName × Position → Type 0
 NameTaken p y = Takes p (name_text y.0) y.1
 
 named_takes : (n : PredicateName) (p : Position) (x : PredicateName × Position) → named (name_text n) n p ≡ Some x → NameTaken p x
-named_takes n p x e =
-    ⊎_elim
-    (λ a. subst (NameTaken p) (is_some (n, a.0) x a.2) (after_takes (name_text n) p a.0 a.1))
-    (λ b. absurd (let none : None ≡ Some x = b.1 in cc))
-    (choose_is _ _ _ x e)
+named_takes n p = last_takes (NameTaken p) (after (name_text n) p) n (after_takes (name_text n) p)
 
 either_takes : (n m : PredicateName) (p : Position) (x : PredicateName × Position) → either (name_text n) n (name_text m) m p ≡ Some x → NameTaken p x
-either_takes n m p x e =
-    ⊎_elim
-    (λ a. subst (NameTaken p) (is_some (n, a.0) x a.2) (after_takes (name_text n) p a.0 a.1))
-    (λ b. named_takes m p x b.1)
-    (choose_is _ _ _ x e)
+either_takes n m p = choose_takes (NameTaken p) (after (name_text n) p) n _ (after_takes (name_text n) p) (named_takes m p)
 
 -- one of two readings
-one_of : {A : Type 0} (v : Bool) (a b : Option A) (x : A) → cond v a b ≡ Some x → (a ≡ Some x) ⊎ (b ≡ Some x)
-one_of true a b x e = inl e
-one_of false a b x e = inr e
+one_of : {A : Type 0} (P : A → Type 0) (v : Bool) (a b : Option A) → ((x : A) → a ≡ Some x → P x) → ((x : A) → b ≡ Some x → P x) → (x : A) → cond v a b ≡ Some x → P x
+one_of P true a b first second x e = first x e
+one_of P false a b first second x e = second x e
 
 pub name_takes : (p : Position) (x : PredicateName × Position) → name_at p ≡ Some x → NameTaken p x
 name_takes p x e =
     let b = first_byte p.rest in
-    ⊎_elim (λ h. named_takes names.All p x h)
-    (λ e. ⊎_elim (λ h. either_takes (names.Matching matching.BinaryId) (names.Matching matching.Binary) p x h)
-    (λ e. ⊎_elim (λ h. either_takes (names.Matching matching.Deps) names.Default p x h)
-    (λ e. ⊎_elim (λ h. named_takes (names.Matching matching.Group) p x h)
-    (λ e. ⊎_elim (λ h. named_takes (names.Matching matching.Kind) p x h)
-    (λ e. ⊎_elim (λ h. named_takes names.None p x h)
-    (λ e. ⊎_elim (λ h. either_takes (names.Matching matching.Package) names.Platform p x h)
-    (λ e. ⊎_elim (λ h. named_takes (names.Matching matching.Rdeps) p x h)
-    (λ e. ⊎_elim (λ h. named_takes (names.Matching matching.Test) p x h)
-    (λ e. absurd (let none : None ≡ Some x = e in cc))
-    (one_of (eqb b 116) _ _ x e))
-    (one_of (eqb b 114) _ _ x e))
-    (one_of (eqb b 112) _ _ x e))
-    (one_of (eqb b 110) _ _ x e))
-    (one_of (eqb b 107) _ _ x e))
-    (one_of (eqb b 103) _ _ x e))
-    (one_of (eqb b 100) _ _ x e))
-    (one_of (eqb b 98) _ _ x e))
-    (one_of (eqb b 97) _ _ x e)
+    let P : PredicateName × Position → Type 0 = NameTaken p in
+    one_of P (eqb b 97) _ _ (named_takes names.All p)
+    (one_of P (eqb b 98) _ _ (either_takes (names.Matching matching.BinaryId) (names.Matching matching.Binary) p)
+    (one_of P (eqb b 100) _ _ (either_takes (names.Matching matching.Deps) names.Default p)
+    (one_of P (eqb b 103) _ _ (named_takes (names.Matching matching.Group) p)
+    (one_of P (eqb b 107) _ _ (named_takes (names.Matching matching.Kind) p)
+    (one_of P (eqb b 110) _ _ (named_takes names.None p)
+    (one_of P (eqb b 112) _ _ (either_takes (names.Matching matching.Package) names.Platform p)
+    (one_of P (eqb b 114) _ _ (named_takes (names.Matching matching.Rdeps) p)
+    (one_of P (eqb b 116) _ _ (named_takes (names.Matching matching.Test) p) (λ x none. absurd cc))))))))) x e
 
 pub word_after : (w : List ℕ) (p q : Position) → after_word w p ≡ Some q → after w p ≡ Some q
 word_after w p q e = from (after w p) e

@@ -1,10 +1,10 @@
--- Reading from left to right, and what the parser's functions promise each other. No public contract cites this.
+-- Reading from left to right, and what the parser's functions promise each other. Of public contracts only those of `lengths`
+-- cite this.
 pub mod Front
 pub mod Escapes
 pub mod Seam
 pub mod Position
 pub mod RawTexts
-pub mod Bodies
 pub mod PlatformNames
 pub mod Globs
 pub mod Words

@@ -12,7 +12,7 @@ pub use filterset_grammar::{
     AndOperator, DifferenceOperator, Joiner, NotOperator, OrOperator, Predicate,
     SymmetricDifferenceOperator, TextMatching,
 };
-pub use parsing::{ParseStop, Parsed};
+pub use parsing::{ParseStop, Parsed, lengths};
 pub use reference::FILTERSET_REFERENCE_MD;
 pub use tree::nodes::ParsedNode;
 pub use tree::{ParsedExpr, ParsedLeaf, nodes};

@@ -3,6 +3,7 @@
 mod escapes;
 mod expressions;
 mod input;
+pub mod lengths;
 mod matchers;
 mod misplaced;
 mod names;
@@ -11,6 +12,5 @@ mod parse;
 mod platform;
 mod predicates;
 mod raw_text;
-mod regex_body;
 
 pub use parse::{ParseStop, Parsed};

@@ -3,7 +3,9 @@ ghost use Rattle.std.specs.Prelude.{Some};
 ghost use Rattle.filterset_language.specs.Views.{leaf_of, tree_of};
 ghost use Rattle.filterset_grammar.specs.Printing.{printed, printed_leaf};
 
+use crate::tree::nodes::ParsedNode;
 use crate::tree::{ParsedExpr, ParsedLeaf};
+use filterset_grammar::Joiner;
 use std::fmt;
 use std::fmt::Display;
 
@@ -12,37 +14,31 @@ impl<S> fmt::Display for ParsedExpr<S> {
     ghost output = { λ e. Some (printed (tree_of e)) };
 
     fn fmt<W: fmt::Write>(&self, f: &mut fmt::Formatter<W>) -> fmt::Result {
-        match self {
-            ParsedExpr::Not(operator, operand) => {
+        match self.node() {
+            ParsedNode::Not(operator, operand) => {
                 write!(f, "{operator} ")?;
-                (**operand).fmt(f)
+                operand.fmt(f)
             }
-            ParsedExpr::Union(operator, left, right) => {
-                (**left).fmt(f)?;
+            ParsedNode::Union(operator, left, right) => {
+                left.fmt(f)?;
                 write!(f, " {operator} ")?;
-                (**right).fmt(f)
+                right.fmt(f)
             }
-            ParsedExpr::Intersection(operator, left, right) => {
-                (**left).fmt(f)?;
-                write!(f, " {operator} ")?;
-                (**right).fmt(f)
+            ParsedNode::Join(joiner, left, right) => {
+                left.fmt(f)?;
+                match joiner {
+                    Joiner::Both(operator) => write!(f, " {operator} ")?,
+                    Joiner::Without(operator) => write!(f, " {operator} ")?,
+                    Joiner::ExactlyOne(operator) => write!(f, " {operator} ")?,
+                }
+                right.fmt(f)
             }
-            ParsedExpr::Difference(operator, left, right) => {
-                (**left).fmt(f)?;
-                write!(f, " {operator} ")?;
-                (**right).fmt(f)
-            }
-            ParsedExpr::SymmetricDifference(operator, left, right) => {
-                (**left).fmt(f)?;
-                write!(f, " {operator} ")?;
-                (**right).fmt(f)
-            }
-            ParsedExpr::Parens(inner) => {
+            ParsedNode::Parens(inner) => {
                 f.write_str("(")?;
-                (**inner).fmt(f)?;
+                inner.fmt(f)?;
                 f.write_str(")")
             }
-            ParsedExpr::Set(leaf) => leaf.fmt(f),
+            ParsedNode::Set(leaf) => leaf.fmt(f),
         }
     }
 }

@@ -4,12 +4,12 @@ use Rattle.filterset_language.specs.Parsing.{Front.close_len, Front.is_white, Gl
 use Rattle.filterset_language.specs.Parsing.Position.{Position, position, advanced, skip, after}
 use Rattle.filterset_language.specs.Parsing.RawTexts.{raw_at, body_at}
 use Rattle.filterset_language.specs.Parsing.Words.{choose, not_at, joiner_at, or_at, name_at}
-use Rattle.filterset_language.specs.{Views.tree_of, declared.parsing.matchers.Sign.Sign}
+use Rattle.filterset_language.specs.Views.{tree_of}
 use Rattle.filterset_language.specs.declared.{parsing.names.PredicateName.PredicateName, tree.ParsedExpr.ParsedExpr}
 use Rattle.filterset_grammar.specs.Grammar.{own_matching}
 use Rattle.filterset_grammar.specs.Tree.{Leaf, Matching, Platform, Default, Tree, Not, Union, Join, Parens, Set}
 use Rattle.filterset_grammar.specs.declared.{operators.Joiner.Joiner, predicate.Predicate.Predicate}
-use Rattle.filterset_grammar.specs.declared.{operators.OrOperator.OrOperator, predicate.TextMatching.TextMatching}
+use Rattle.filterset_grammar.specs.declared.{operators.NotOperator.NotOperator, operators.OrOperator.OrOperator, predicate.TextMatching.TextMatching}
 use Rattle.filterset_matchers.specs.Matcher.{Matcher, Equal, Contains, Regex}
 use Rattle.filterset_grammar.specs.Tree as tree
 use Rattle.filterset_faults.specs.{Span.span, declared.span.SourceSpan.SourceSpan}
@@ -36,11 +36,7 @@ None >>= f = None
 abbrev pub regex_at : Position → Option (Matcher × Position)
 regex_at p = body_at p >>= λ x. Some (Regex x.0.0, x.1)
 
--- the code's way of matching a text, and whether no sign stands before the text
-abbrev pub seen_sign : Sign → TextMatching × Bool
-seen_sign s = (s.matching, s.implicit)
-
--- a sign that stands here and the position after it, or the other
+-- how a matcher with the sign that stands here matches, whether it has none, and the position after it; or the other
 abbrev pub signed_or : Option Position → TextMatching → (TextMatching × Bool) × Position → (TextMatching × Bool) × Position
 signed_or (Some q) matching other = ((matching, false), q)
 signed_or None matching other = other
@@ -159,13 +155,19 @@ or_level_by read p = level_by or_at unite (and_level_by read) p
 abbrev pub set_at : PredicateName → ℕ → Position → Option (Placed × Position)
 set_at name start p = leaf_at name start p >>= λ l. Some (Set l.0, l.1)
 
+-- the operand of a negation
+abbrev pub negated_by : NotOperator → Reader → Reader
+negated_by op read p = read p >>= λ e. Some (Not op e.0, e.1)
+
+-- an expression and a closing parenthesis
+abbrev pub enclosed_by : Reader → Reader
+enclosed_by read p = or_level_by read p >>= λ e. after (codes ")") (skip e.1) >>= λ r. Some (Parens e.0, r)
+
 -- an operand after its blanks: a predicate, a negation or parentheses
 abbrev pub operand_by : Reader → Reader
 operand_by read p =
     choose (name_at p) (λ x. set_at x.0 p.at x.1)
-    (choose (not_at p) (λ x. read x.1 >>= λ e. Some (Not x.0 e.0, e.1))
-    (after (codes "(") p >>= λ q. or_level_by read q >>= λ e. after (codes ")") (skip e.1)
-    >>= λ r. Some (Parens e.0, r)))
+    (choose (not_at p) (λ x. negated_by x.0 read x.1) (after (codes "(") p >>= λ q. enclosed_by read q))
 
 -- n is at least the number of nested operands
 unfoldable pub operand_at : ℕ → Reader

@@ -1,14 +1,13 @@
 -- What a reader promises although `regex` may reject patterns: the definitions read each pattern as the text spells it,
 -- and the reader returns no value if one was rejected.
-use Rattle.std.specs.Prelude.{◌≡◌, ℕ, suc, ◌+◌, ◌<◌, ◌≤◌, List, ◌++◌, length, All, Option, None, Some, Box, Result, IfOk, codes}
+use Rattle.std.specs.Prelude.{◌≡◌, ℕ, ◌+◌, ◌<◌, ◌≤◌, List, ◌++◌, length, All, Option, None, Some, Box, Result, IfOk}
 use Rattle.std.specs.Option.{option_map}
-use Rattle.filterset_grammar.specs.{Text.Body, Tree.Leaf, Tree.Set, Tree.Not, Tree.Parens}
+use Rattle.filterset_grammar.specs.{Text.Body, Tree.Leaf, Tree.Set}
 use Rattle.filterset_grammar.specs.Patterns.{MatcherIsRead, LeafIsRead, PatternsAreRead}
-use Rattle.filterset_grammar.specs.declared.operators.NotOperator.{NotOperator}
-use Rattle.filterset_language.specs.Parsing.Position.{Position, position_of, after, skip}
+use Rattle.filterset_language.specs.Parsing.Position.{Position, position_of}
 use Rattle.filterset_language.specs.{Views.leaf_of, Faults.piece, Parsed.LiesOnBody}
-use Rattle.filterset_language.specs.Parsing.Descent.{Placed, Reader, Next, Make, more, boxed_tree, operand_at, or_level_by}
-use Rattle.filterset_language.specs.Parsing.Recovery.{FaultList, Recovers}
+use Rattle.filterset_language.specs.Parsing.Descent.{Placed, Reader, Next, Make, more, boxed_tree}
+use Rattle.filterset_language.specs.Parsing.Recovery.{FaultList}
 use Rattle.filterset_language.specs.declared.parsing.input.{Input.Input, Read.Read}
 use Rattle.filterset_language.specs.declared.tree.{ParsedExpr.ParsedExpr, ParsedLeaf.ParsedLeaf}
 use Rattle.filterset_matchers.specs.{Matcher.Matcher, Matcher.Regex, Pattern.MayBeRejected, Matchers.matcher_of}
@@ -33,13 +32,12 @@ pub data Gives {Y : Type 0} (Good : Y → Type 0) (On : Y → ParseSingleError �
   reads : (y : Y) → Carried Good On old new value y → read ≡ Some (y, q) → Gives Good On old new value q read
   fails : length old < length new → read ≡ None → Gives Good On old new value q read
 
--- the same from the first operand of a level on, seen after the operands so far
-pub data Going {O : Type 0} (next : Next O) (make : Make O) (Good : Placed → Type 0)
-    (On : Placed → ParseSingleError → Type 0) (old new : Faults) (left : Option Placed) (p : Position) (read : Reader)
-    (total : Option (Placed × Position)) : Type 0 where
-  goes : (e : Placed) → Carried Good On old new left e → (m : ℕ) → length p.rest ≤ m → more next make read m e p ≡ total
-      → Going next make Good On old new left p read total
-  failed : length old < length new → total ≡ None → Going next make Good On old new left p read total
+-- the same of a tree, whose patterns are read, from the first operand of a level on, seen after the operands so far
+pub data Going {O : Type 0} (next : Next O) (make : Make O) (text : List ℕ) (old new : Faults) (left : Option Placed)
+    (p : Position) (read : Reader) (total : Option (Placed × Position)) : Type 0 where
+  goes : (e : Placed) → Carried PatternsAreRead (LiesOnBody text) old new left e → (m : ℕ) → length p.rest ≤ m
+      → more next make read m e p ≡ total → Going next make text old new left p read total
+  failed : length old < length new → total ≡ None → Going next make text old new left p read total
 
 -- the fault is that the body at this span is rejected, by whose pattern the matcher is, and which may be rejected
 abbrev pub RefusesBody : SourceSpan → Matcher → ParseSingleError → Type 0
@@ -93,37 +91,12 @@ ReadsTree input old new result read =
     → GivesTree input.text.now old.items new.items
     (option_map boxed_tree r.value) (position_of r.end) (read n (position_of input)))
 
--- A predicate as a tree does not nest.
-abbrev pub ReadsSet : {A E : Type 0}
-    → Input → FaultList → FaultList → Result (Read (Box (ParsedExpr SourceSpan) A)) E → Reader → Type 0
-ReadsSet input old new result read =
-    IfOk result (λ r. GivesTree input.text.now old.items new.items
-    (option_map boxed_tree r.value) (position_of r.end) (read (position_of input)))
-
--- The negation of what reading gives of an operand.
-abbrev pub ReadsNegation : {A E : Type 0}
-    → NotOperator → Input → FaultList → FaultList → Result (Read (Box (ParsedExpr SourceSpan) A)) E → Type 0
-ReadsNegation op input old new result =
-    IfOk result (λ r. (v : Option Placed) × (option_map boxed_tree r.value ≡ option_map (λ t. Not op t) v)
-    × ((n : ℕ) → length input.rest.now ≤ n
-    → GivesTree input.text.now old.items new.items v (position_of r.end) (operand_at (suc n) (position_of input))))
-
--- What reading gives of an expression, in parentheses, of which the closing one was read after it.
-abbrev pub ReadsParens : {A E : Type 0}
-    → Input → FaultList → FaultList → Result (Read (Box (ParsedExpr SourceSpan) A)) E → Type 0
-ReadsParens input old new result =
-    IfOk result (λ r. (v : Option Placed) × (q : Position) × (between : Faults)
-    × (option_map boxed_tree r.value ≡ option_map (λ t. Parens t) v)
-    × ((n : ℕ) → length input.rest.now ≤ n
-    → GivesTree input.text.now old.items between v q (or_level_by (operand_at (suc n)) (position_of input)))
-    × Recovers between new.items (Some (position_of r.end)) (after (codes ")") (skip q)))
-
 -- After the first operand of a level: what comes is what reading gives from the first one on.
 abbrev pub ReadsOn : {O A E : Type 0}
     → Next O → Make O → (ℕ → Reader) → Read (Box (ParsedExpr SourceSpan) A) → FaultList → FaultList
     → Result (Read (Box (ParsedExpr SourceSpan) A)) E → Type 0
 ReadsOn next make read first old new result =
     IfOk result (λ r. (n : ℕ) (before : Faults) (total : Option (Placed × Position)) → length first.end.rest.now ≤ n
-    → Going next make PatternsAreRead (LiesOnBody first.end.text.now) before old.items
+    → Going next make first.end.text.now before old.items
     (option_map boxed_tree first.value) (position_of first.end) (read n) total
     → GivesTree first.end.text.now before new.items (option_map boxed_tree r.value) (position_of r.end) total)

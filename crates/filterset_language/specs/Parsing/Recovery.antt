@@ -1,9 +1,9 @@
 -- What a reader promises that goes on after a fault.
-use Rattle.std.specs.Prelude.{◌≡◌, ℕ, ◌<◌, ◌≤◌, List, length, take, codes, Option, None, Some, IsSome, MatchOption, All, Bool, true, false, Result, IfOk, Vec}
+use Rattle.std.specs.Prelude.{◌≡◌, ℕ, ◌<◌, ◌≤◌, List, length, take, codes, Option, None, Some, IsSome, All, Bool, true, false, Result, IfOk, Vec}
 use Rattle.std.specs.{Option.option_map, declared.alloc.Global.Global}
 use Rattle.filterset_language.specs.Faults.{FaultStands, BeforeOperand, EndsWith, Misplaced, misplaced_and, misplaced_or, misplaced_AND, misplaced_OR, misplaced_ampersands, misplaced_pipes}
-use Rattle.filterset_language.specs.Parsing.{Descent.Placed, Descent.◌>>=◌, Descent.Make, Escapes.escape_at}
-use Rattle.filterset_language.specs.Parsing.Position.{Position, position_of, skip, after, after_word, advanced, IsAtOrBehind}
+use Rattle.filterset_language.specs.Parsing.Descent.{Placed, ◌>>=◌, Make}
+use Rattle.filterset_language.specs.Parsing.Position.{Position, position_of, skip, after, after_word, IsAtOrBehind}
 use Rattle.filterset_language.specs.Parsing.Words.{name_at, not_at, name_text}
 use Rattle.filterset_language.specs.declared.parsing.input.{Input.Input, Read.Read}
 use Rattle.filterset_language.specs.declared.parsing.names.PredicateName.{PredicateName}
@@ -71,11 +71,6 @@ EndsBehind input result = IfOk result (λ r. IsAtOrBehind input r.end)
 -- an operator and its operands, where all three are there
 abbrev pub joined : {O : Type 0} → Make O → Option O → Option Placed → Option Placed → Option Placed
 joined make op left right = op >>= λ o. left >>= λ l. right >>= λ r. Some (make o l r)
-
--- what stands after a backslash was passed: an escape, or nothing where none stands there, which is reported
-abbrev pub Passes : Position → Position → List ParseSingleError → List ParseSingleError → Type 0
-Passes p q old new =
-    MatchOption (escape_at p.rest) ((q ≡ p) × (length old < length new)) (λ e. (q ≡ advanced e.1 p) × (new ≡ old))
 
 -- an operator was looked at: an invalid one is reported
 abbrev pub Checked : {O : Type 0} → Option O → List ParseSingleError → List ParseSingleError → Type 0

@@ -1,6 +1,6 @@
 //! Reads escapes of raw texts.
-ghost use Rattle.std.specs.{Prelude.◌≡◌, Prelude.◌<◌, Prelude.◌≤◌, Prelude.length, Prelude.zero, Option.option_map};
-ghost use Rattle.filterset_language.specs.Parsing.Escapes.{letter_at, digit_at, named, code_from, escape_at, seen_escape};
+ghost use Rattle.std.specs.{Prelude.◌≡◌, Option.option_map};
+ghost use Rattle.filterset_language.specs.Parsing.Escapes.{letter_at, code_from, escape_at, seen_escape};
 
 /// The character of an escape, and the number of bytes after its backslash.
 #[derive(Clone, Copy)]
@@ -47,35 +47,17 @@ fn read_code_point(text: &[u8]) -> Option<Escape>
 {
     let mut code = 0;
     for (seen, b) in text.iter().enumerate() {
-        if *b == b'}' {
-            return make_escape(seen, code);
+        if *b == b'}' && seen > 0 {
+            let character = char::from_u32(code)?;
+            return Some(Escape {
+                character,
+                len: seen + 3,
+            });
         }
         if seen == 6 {
             return None;
         }
-        code = 16 * code + read_digit(*b)?;
+        code = 16 * code + char::from(*b).to_digit(16)?;
     }
     None
-}
-
-/// Returns the value of a hexadecimal digit of either case.
-fn read_digit(b: u8) -> Option<u32>
-    ensures { result ≡ digit_at b }
-{
-    char::from(b).to_digit(16)
-}
-
-/// Makes the escape of a code point with `seen` digits, if there are any and the code is a character's.
-fn make_escape(seen: usize, code: u32) -> Option<Escape>
-    requires { seen ≤ 6 }
-    ensures { option_map seen_escape result ≡ named seen code }
-{
-    if seen == 0 {
-        return None;
-    }
-    let character = char::from_u32(code)?;
-    Some(Escape {
-        character,
-        len: seen + 3,
-    })
 }

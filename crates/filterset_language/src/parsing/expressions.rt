@@ -2,8 +2,8 @@
 ghost use Rattle.std.specs.Prelude.{◌≡◌, suc, ◌<◌, length, IfOk, Some};
 ghost use Rattle.std.specs.Option.{option_map};
 ghost use Rattle.filterset_grammar.specs.Tree.{Not, Parens, Set};
-ghost use Rattle.filterset_language.specs.Parsing.Descent.{boxed_tree, operand_at, and_level_by, or_level_by, join, unite, set_at};
-ghost use Rattle.filterset_language.specs.Parsing.Outcome.{ReadsTree, ReadsSet, ReadsNegation, ReadsParens, ReadsOn};
+ghost use Rattle.filterset_language.specs.Parsing.Descent.{boxed_tree, operand_at, and_level_by, or_level_by, join, unite, set_at, negated_by, enclosed_by};
+ghost use Rattle.filterset_language.specs.Parsing.Outcome.{ReadsTree, ReadsOn};
 ghost use Rattle.filterset_language.specs.Parsing.Position.{position_of, IsBehind, IsAtOrBehind};
 ghost use Rattle.filterset_language.specs.Parsing.Recovery.{StillStand, EndsBehind, joined, Checked, AtOperand, AtName, NoOperand};
 ghost use Rattle.filterset_language.specs.{Parsing.Words.joiner_at, Parsing.Words.or_at, Views.leaf_of};
@@ -56,7 +56,7 @@ fn read_negation<'a>(
     input: Input<'a>,
 ) -> Result<Read<'a, Box<ParsedExpr>>, AllocError>
     requires { AtOperand input }
-    ensures value { ReadsNegation operator input.entry faults.old faults.new result }
+    ensures value { ReadsTree input.entry faults.old faults.new result (λ n. negated_by operator (operand_at (suc n))) }
     ensures stand { StillStand input.entry faults.old faults.new result }
     ensures behind { EndsBehind input.entry result }
 {
@@ -76,7 +76,7 @@ fn read_parens<'a>(
     input: Input<'a>,
 ) -> Result<Read<'a, Box<ParsedExpr>>, AllocError>
     requires { AtOperand input }
-    ensures value { ReadsParens input.entry faults.old faults.new result }
+    ensures value { ReadsTree input.entry faults.old faults.new result (λ n. enclosed_by (operand_at (suc n))) }
     ensures stand { StillStand input.entry faults.old faults.new result }
     ensures behind { EndsBehind input.entry result }
 {
@@ -102,16 +102,13 @@ fn read_nothing<'a>(
     ensures stand { StillStand input.entry faults.old faults.new result }
     ensures behind { EndsBehind input.entry result }
 {
-    if let Some(found) = find_misplaced(start) {
+    if let Some((op, suggest, end)) = find_misplaced(start) {
         faults.push(ParseSingleError::ExprFoundBinaryOp {
-            op: found.op,
-            suggest: found.suggest,
-            span: start.up_to(found.end),
+            op,
+            suggest,
+            span: start.up_to(end),
         })?;
-        return Ok(Read {
-            value: None,
-            end: found.end,
-        });
+        return Ok(Read { value: None, end });
     }
     if let Some(end) = start.after_word("NOT") {
         faults.push(ParseSingleError::ExprFoundUnaryOp {
@@ -274,7 +271,7 @@ fn read_set<'a>(
 ) -> Result<Read<'a, Box<ParsedExpr>>, AllocError>
     requires name { AtName name input }
     requires start { IsAtOrBehind start input }
-    ensures value { ReadsSet input.entry faults.old faults.new result (set_at name start.entry.offset) }
+    ensures value { ReadsTree input.entry faults.old faults.new result (λ n. set_at name start.entry.offset) }
     ensures stand { StillStand input.entry faults.old faults.new result }
     ensures behind { EndsBehind input.entry result }
 {

@@ -1,9 +1,10 @@
 //! Positions in a text, and steps from one to the next: over blanks, a word, or all up to the next `)`.
 ghost use Rattle.std.specs.Prelude.{◌≡◌, ◌+◌, ◌-◌, ◌≤◌, ◌<◌, ◌^◌, length, min, IsCharBoundary, IfSome};
 ghost use Rattle.std.specs.Option.{option_map};
-ghost use Rattle.filterset_language.specs.Parsing.{Front.blank_len, Front.close_len, Seam.IsSeam, Seam.AreBlanks};
+ghost use Rattle.filterset_language.specs.Parsing.{Front.close_len, Seam.IsSeam, Seam.AreBlanks};
 ghost use Rattle.filterset_faults.specs.Span.{span};
 
+use crate::parsing::lengths::{blank_len, close_len};
 use filterset_faults::SourceSpan;
 
 /// A position in a text: a byte offset, and the rest of the text from there.
@@ -153,28 +154,4 @@ impl<'a> Input<'a> {
             _ => Some(input),
         }
     }
-}
-
-/// Returns the length in bytes of the blank at the start of a text, or 0 if there is none.
-fn blank_len(text: &[u8]) -> usize
-    ensures { result ≡ blank_len text.now }
-{
-    match text {
-        [b' ' | b'\n', ..] => 1,
-        [b'\r', b'\n', ..] => 2,
-        _ => 0,
-    }
-}
-
-/// Returns the number of bytes before the next `)`, or of the whole text.
-fn close_len(text: &[u8]) -> usize
-    ensures value { result ≡ close_len text.now }
-    ensures within { result ≤ length text.now }
-{
-    for (i, b) in text.iter().enumerate() {
-        if *b == b')' {
-            return i;
-        }
-    }
-    text.len()
 }

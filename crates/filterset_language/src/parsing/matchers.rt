@@ -4,40 +4,19 @@ ghost use Rattle.std.specs.Option.{option_map};
 ghost use Rattle.filterset_matchers.specs.{Matcher.Regex, Matchers.matcher_of};
 ghost use Rattle.filterset_language.specs.Faults.{EndsWith};
 ghost use Rattle.filterset_language.specs.Parsing.{Position.position_of, Position.IsAtOrBehind, RawTexts.SpelledTo};
-ghost use Rattle.filterset_language.specs.Parsing.Descent.{made, sign_at, seen_sign, regex_at, text_matcher_at, matcher_at};
-ghost use Rattle.filterset_language.specs.Parsing.Recovery.{ReadsAs, StillStand, EndsBehind, Recovers};
+ghost use Rattle.filterset_language.specs.Parsing.Descent.{made, sign_at, regex_at, matcher_at};
+ghost use Rattle.filterset_language.specs.Parsing.Recovery.{StillStand, EndsBehind, Recovers};
 ghost use Rattle.filterset_language.specs.Parsing.Outcome.{ReadsMatcher, MakesPattern};
 
 use crate::parsing::input::{Input, Read};
+use crate::parsing::lengths::body_len;
 use crate::parsing::raw_text::read_raw_text;
-use crate::parsing::regex_body::{RegexBody, read_regex_body};
-use filterset_faults::ParseSingleError;
+use filterset_faults::{ParseSingleError, SourceSpan};
 use filterset_glob::{GenericGlob, GlobRefusal};
 use filterset_grammar::{Predicate, TextMatching};
 use filterset_matchers::{NameMatcher, PatternRefusal, PatternRegex};
 use std::alloc::{AllocError, Global};
 use std::rc::Rc;
-
-/// How a matcher with this sign matches, or, without a sign, how the predicate does.
-#[derive(Clone, Copy)]
-struct Sign {
-    matching: TextMatching,
-    implicit: bool,
-}
-
-impl Sign {
-    ghost use Rattle.filterset_language.specs.Parsing.Descent.{seen_sign};
-
-    /// Makes the sign of a matcher that has one.
-    fn explicit(matching: TextMatching) -> Sign
-        ensures { seen_sign result ≡ (matching, false) }
-    {
-        Sign {
-            matching,
-            implicit: false,
-        }
-    }
-}
 
 /// Reads the matcher of a predicate.
 pub fn read_matcher<'a>(
@@ -50,13 +29,22 @@ pub fn read_matcher<'a>(
     ensures stand { StillStand input.entry faults.old faults.new result }
     ensures behind { EndsBehind input.entry result }
 {
-    match input.after("/") {
-        Some(body) => read_regex(alloc, faults, body),
-        None => read_text_matcher(alloc, faults, name, input),
+    if let Some(body) = input.after("/") {
+        return read_regex(alloc, faults, body);
     }
+    let (sign, start) = read_sign(name, input);
+    let Read { value, end } = read_raw_text(alloc, faults, start)?;
+    let Some(value) = value else {
+        return Ok(Read { value: None, end });
+    };
+    let value = make_matcher(alloc, faults, sign, value, start, end)?;
+    Ok(Read { value, end })
 }
 
-/// Reads a regular expression after its opening slash.
+/// Reads a regular expression after its opening slash, and the closing one.
+///
+/// The body ends before the first `/` that does not directly follow a backslash. If there is none, reports that and
+/// returns no value, at the next `)` or at the end.
 fn read_regex<'a>(
     alloc: Global,
     faults: &mut Vec<ParseSingleError>,
@@ -67,11 +55,15 @@ fn read_regex<'a>(
     ensures stand { StillStand input.entry faults.old faults.new result }
     ensures behind { EndsBehind input.entry result }
 {
-    let Read { value: body, end } = read_regex_body(alloc, faults, input)?;
-    let Some(body) = body else {
+    let count = body_len(input.rest.as_bytes());
+    let slash = input.advance(count);
+    let Some(end) = slash.after("/") else {
+        let end = input.advance_to_close();
+        faults.push(ParseSingleError::ExpectedCloseRegex(end.here()))?;
         return Ok(Read { value: None, end });
     };
-    let value = build_pattern(alloc, faults, body)?;
+    let pattern = input.rest[..count].replace(alloc, "\\/", "/")?;
+    let value = build_pattern(alloc, faults, pattern, input.up_to(slash))?;
     Ok(Read { value, end })
 }
 
@@ -81,67 +73,44 @@ fn read_regex<'a>(
 fn build_pattern(
     alloc: Global,
     faults: &mut Vec<ParseSingleError>,
-    body: RegexBody,
+    pattern: String,
+    span: SourceSpan,
 ) -> Result<Option<NameMatcher>, AllocError>
-    ensures { IfOk result (λ m. MakesPattern body.span faults.old.items faults.new.items (option_map matcher_of m)
-        (Regex (string_bytes body.pattern))) }
+    ensures { IfOk result (λ m. MakesPattern span faults.old.items faults.new.items (option_map matcher_of m)
+        (Regex (string_bytes pattern))) }
 {
-    match PatternRegex::new(alloc, body.pattern) {
+    match PatternRegex::new(alloc, pattern) {
         Ok(pattern) => Ok(Some(NameMatcher::Regex(Rc::new(alloc, pattern)?))),
         Err(PatternRefusal::NotBuilt) => {
-            faults.push(ParseSingleError::InvalidRegexWithoutMessage(body.span))?;
+            faults.push(ParseSingleError::InvalidRegexWithoutMessage(span))?;
             Ok(None)
         }
         Err(PatternRefusal::OutOfMemory(error)) => Err(error),
     }
 }
 
-/// Reads the sign of a matcher, if any, and its text.
-fn read_text_matcher<'a>(
-    alloc: Global,
-    faults: &mut Vec<ParseSingleError>,
-    name: Predicate,
-    input: Input<'a>,
-) -> Result<Read<'a, NameMatcher>, AllocError>
-    ensures value { ReadsAs matcher_of faults.old faults.new result (text_matcher_at name (position_of input.entry)) }
-    ensures stand { StillStand input.entry faults.old faults.new result }
-    ensures behind { EndsBehind input.entry result }
-{
-    let (sign, start) = read_sign(name, input);
-    let Read { value, end } = read_raw_text(alloc, faults, start)?;
-    let Some(value) = value else {
-        return Ok(Read { value: None, end });
-    };
-    let value = make_matcher(alloc, faults, sign, value, start, end)?;
-    Ok(Read { value, end })
-}
-
-/// Reads a sign, and returns the position after it.
-fn read_sign<'a>(name: Predicate, input: Input<'a>) -> (Sign, Input<'a>)
-    ensures value { (seen_sign result.0, position_of result.1) ≡ sign_at name (position_of input.entry) }
+/// Reads the sign of a matcher. Returns how the matcher matches, whether it has no sign, and the position after the sign.
+fn read_sign<'a>(name: Predicate, input: Input<'a>) -> ((TextMatching, bool), Input<'a>)
+    ensures value { (result.0, position_of result.1) ≡ sign_at name (position_of input.entry) }
     ensures behind { IsAtOrBehind input.entry result.1 }
 {
     if let Some(rest) = input.after("#") {
-        return (Sign::explicit(TextMatching::Glob), rest);
+        return ((TextMatching::Glob, false), rest);
     }
     if let Some(rest) = input.after("=") {
-        return (Sign::explicit(TextMatching::Equal), rest);
+        return ((TextMatching::Equal, false), rest);
     }
     if let Some(rest) = input.after("~") {
-        return (Sign::explicit(TextMatching::Contains), rest);
+        return ((TextMatching::Contains, false), rest);
     }
-    let sign = Sign {
-        matching: name.own_matching(),
-        implicit: true,
-    };
-    (sign, input)
+    ((name.own_matching(), true), input)
 }
 
 /// Makes the matcher of a value that was read between two positions, or reports that it is no glob.
 fn make_matcher<'a>(
     alloc: Global,
     faults: &mut Vec<ParseSingleError>,
-    sign: Sign,
+    sign: (TextMatching, bool),
     value: String,
     start: Input<'a>,
     end: Input<'a>,
@@ -149,11 +118,11 @@ fn make_matcher<'a>(
     requires spelled { SpelledTo (position_of start) (string_bytes value) (position_of end) }
     requires behind { IsAtOrBehind start end }
     ensures value { IfOk result (λ m. Recovers faults.old.items faults.new.items (option_map matcher_of m)
-        (made (seen_sign sign) (string_bytes value))) }
+        (made sign (string_bytes value))) }
     ensures stand { StillStand start.entry faults.old faults.new result }
 {
-    let implicit = sign.implicit;
-    match sign.matching {
+    let (matching, implicit) = sign;
+    match matching {
         TextMatching::Equal => Ok(Some(NameMatcher::Equal { value, implicit })),
         TextMatching::Contains => Ok(Some(NameMatcher::Contains { value, implicit })),
         TextMatching::Glob => match GenericGlob::new(alloc, value) {

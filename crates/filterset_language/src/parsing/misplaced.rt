@@ -5,60 +5,29 @@ ghost use Rattle.filterset_language.specs.Parsing.Recovery.{IsMisplaced};
 
 use crate::parsing::input::Input;
 
-/// An operator where an operand belongs, the one to suggest instead, and the position after it.
-#[derive(Clone, Copy)]
-pub struct Misplaced<'a> {
-    pub op: &'static str,
-    pub suggest: &'static str,
-    pub end: Input<'a>,
-}
-
-/// Finds an operator of two operands here, in one of its spellings or as other languages write it.
-pub fn find_misplaced(input: Input<'_>) -> Option<Misplaced<'_>>
-    ensures value { IfSome result (λ x. IsMisplaced (position_of input.entry) x.op.now x.suggest.now (position_of x.end)) }
+/// Finds an operator of two operands here, in one of its spellings or as other languages write it. Returns it, the one to
+/// suggest instead, and the position after it.
+pub fn find_misplaced(input: Input<'_>) -> Option<(&'static str, &'static str, Input<'_>)>
+    ensures value { IfSome result (λ x. IsMisplaced (position_of input.entry) x.0.now x.1.now (position_of x.2)) }
     ensures none { result ≡ None → (op suggest : List ℕ) (q : Position)
         → IsMisplaced (position_of input.entry) op suggest q → ⊥ }
-    ensures behind { IfSome result (λ x. IsBehind input.entry x.end) }
+    ensures behind { IfSome result (λ x. IsBehind input.entry x.2) }
 {
     if let Some(end) = input.after_word("and") {
-        return Some(Misplaced {
-            op: "and",
-            suggest: "and",
-            end,
-        });
+        return Some(("and", "and", end));
     }
     if let Some(end) = input.after_word("or") {
-        return Some(Misplaced {
-            op: "or",
-            suggest: "or",
-            end,
-        });
+        return Some(("or", "or", end));
     }
     if let Some(end) = input.after_word("AND") {
-        return Some(Misplaced {
-            op: "AND",
-            suggest: "and",
-            end,
-        });
+        return Some(("AND", "and", end));
     }
     if let Some(end) = input.after_word("OR") {
-        return Some(Misplaced {
-            op: "OR",
-            suggest: "or",
-            end,
-        });
+        return Some(("OR", "or", end));
     }
     if let Some(end) = input.after("&&") {
-        return Some(Misplaced {
-            op: "&&",
-            suggest: "&",
-            end,
-        });
+        return Some(("&&", "&", end));
     }
     let end = input.after("||")?;
-    Some(Misplaced {
-        op: "||",
-        suggest: "|",
-        end,
-    })
+    Some(("||", "|", end))
 }

@@ -1,7 +1,7 @@
 //! Reads the names of predicates.
 ghost use Rattle.std.specs.{Prelude.◌≡◌, Prelude.◌<◌, Prelude.length, Prelude.IfSome, Option.option_map};
 ghost use Rattle.filterset_language.specs.Parsing.Position.{position_of, IsBehind};
-ghost use Rattle.filterset_language.specs.Parsing.Words.{seen, first_byte, named, either, name_at};
+ghost use Rattle.filterset_language.specs.Parsing.Words.{seen, named, either, name_at};
 
 use crate::parsing::input::Input;
 use filterset_grammar::Predicate;
@@ -21,21 +21,21 @@ pub fn read_name(input: Input<'_>) -> Option<(PredicateName, Input<'_>)>
     ensures value { option_map seen result ≡ name_at (position_of input.entry) }
     ensures behind { IfSome result (λ x. IsBehind input.entry x.1) }
 {
-    match first_byte(input.rest.as_bytes()) {
-        b'a' => read_named(input, "all", PredicateName::All),
-        b'b' => {
+    match input.rest.as_bytes() {
+        [b'a', ..] => read_named(input, "all", PredicateName::All),
+        [b'b', ..] => {
             let id = PredicateName::Matching(Predicate::BinaryId);
             let binary = PredicateName::Matching(Predicate::Binary);
             read_either(input, "binary_id", id, "binary", binary)
         }
-        b'd' => {
+        [b'd', ..] => {
             let deps = PredicateName::Matching(Predicate::Deps);
             read_either(input, "deps", deps, "default", PredicateName::Default)
         }
-        b'g' => read_named(input, "group", PredicateName::Matching(Predicate::Group)),
-        b'k' => read_named(input, "kind", PredicateName::Matching(Predicate::Kind)),
-        b'n' => read_named(input, "none", PredicateName::None),
-        b'p' => {
+        [b'g', ..] => read_named(input, "group", PredicateName::Matching(Predicate::Group)),
+        [b'k', ..] => read_named(input, "kind", PredicateName::Matching(Predicate::Kind)),
+        [b'n', ..] => read_named(input, "none", PredicateName::None),
+        [b'p', ..] => {
             let package = PredicateName::Matching(Predicate::Package);
             read_either(
                 input,
@@ -45,8 +45,8 @@ pub fn read_name(input: Input<'_>) -> Option<(PredicateName, Input<'_>)>
                 PredicateName::Platform,
             )
         }
-        b'r' => read_named(input, "rdeps", PredicateName::Matching(Predicate::Rdeps)),
-        b't' => read_named(input, "test", PredicateName::Matching(Predicate::Test)),
+        [b'r', ..] => read_named(input, "rdeps", PredicateName::Matching(Predicate::Rdeps)),
+        [b't', ..] => read_named(input, "test", PredicateName::Matching(Predicate::Test)),
         _ => None,
     }
 }
@@ -82,14 +82,4 @@ fn read_either<'a>(
         return Some((name, rest));
     }
     read_named(input, second, other)
-}
-
-/// Returns the first byte of a text, or 0 if it is empty.
-fn first_byte(text: &[u8]) -> u8
-    ensures { result ≡ first_byte text.now }
-{
-    match text {
-        [b, ..] => *b,
-        [] => 0,
-    }
 }

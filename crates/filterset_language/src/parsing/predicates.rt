@@ -2,9 +2,9 @@
 ghost use Rattle.std.specs.{Prelude.◌≡◌, Prelude.codes, Option.option_map};
 ghost use Rattle.filterset_matchers.specs.Matchers.{matcher_of};
 ghost use Rattle.filterset_grammar.specs.Tree.{Matching};
-ghost use Rattle.filterset_language.specs.{Views.leaf_of, Parsing.Front.is_white};
+ghost use Rattle.filterset_language.specs.Views.{leaf_of};
 ghost use Rattle.filterset_language.specs.Parsing.Position.{position_of, skip, after, IsAtOrBehind};
-ghost use Rattle.filterset_language.specs.Parsing.Descent.{bare_end_at, bare_at, default_at, matching_at, platform_at, leaf_at};
+ghost use Rattle.filterset_language.specs.Parsing.Descent.{bare_end_at, bare_at, matching_at, platform_at, leaf_at};
 ghost use Rattle.filterset_language.specs.Parsing.Recovery.{StepsOver, ReadsAs, StillStand, GoesOn, EndsBehind, AtName};
 ghost use Rattle.filterset_language.specs.Parsing.Outcome.{ReadsLeaf};
 
@@ -74,13 +74,6 @@ fn read_argument_end<'a>(
     read_close(faults, input.remember_blanks(start))
 }
 
-/// Returns whether a text is all white space.
-fn is_white(text: &str) -> bool
-    ensures { result ≡ is_white text.now }
-{
-    text.trim_start().is_empty()
-}
-
 /// Reads the closing parenthesis of a predicate that takes no argument. Reports an argument before it.
 fn read_bare_end<'a>(
     faults: &mut Vec<ParseSingleError>,
@@ -91,7 +84,8 @@ fn read_bare_end<'a>(
     ensures behind { GoesOn input.entry result }
 {
     let end = input.advance_to_close();
-    if !is_white(&input.rest[..end.offset - input.offset]) {
+    let argument = &input.rest[..end.offset - input.offset];
+    if !argument.trim_start().is_empty() {
         faults.push(ParseSingleError::UnexpectedArgument(input.up_to(end)))?;
     }
     read_close(faults, end)
@@ -111,25 +105,6 @@ fn read_bare<'a>(
     let end = read_bare_end(faults, input)?;
     Ok(Read {
         value: Some(leaf),
-        end,
-    })
-}
-
-/// Reads the rest of `default`, whose span begins at its name, at `start`.
-fn read_default<'a>(
-    faults: &mut Vec<ParseSingleError>,
-    start: Input<'a>,
-    input: Input<'a>,
-) -> Result<Read<'a, ParsedLeaf>, AllocError>
-    requires { IsAtOrBehind start input }
-    ensures value { ReadsAs leaf_of faults.old faults.new result
-        (default_at start.entry.offset (position_of input.entry)) }
-    ensures stand { StillStand input.entry faults.old faults.new result }
-    ensures behind { EndsBehind input.entry result }
-{
-    let end = read_bare_end(faults, input)?;
-    Ok(Read {
-        value: Some(ParsedLeaf::Default(start.up_to(end))),
         end,
     })
 }
@@ -215,7 +190,14 @@ pub fn read_predicate<'a>(
     match name {
         PredicateName::Matching(name) => read_matching(alloc, faults, name, inside),
         PredicateName::Platform => read_platform(alloc, faults, inside),
-        PredicateName::Default => read_default(faults, start, inside),
+        PredicateName::Default => {
+            let end = read_bare_end(faults, inside)?;
+            let leaf = ParsedLeaf::Default(start.up_to(end));
+            Ok(Read {
+                value: Some(leaf),
+                end,
+            })
+        }
         PredicateName::All => read_bare(faults, ParsedLeaf::All, inside),
         PredicateName::None => read_bare(faults, ParsedLeaf::None, inside),
     }

@@ -1,10 +1,10 @@
 //! Reads raw texts.
-ghost use Rattle.std.specs.Prelude.{◌≡◌, ◌≤◌, length, take, IfOk, IfSome, Some, codes};
+ghost use Rattle.std.specs.Prelude.{◌≡◌, ◌≤◌, length, take, IfOk, IfSome};
 ghost use Rattle.std.specs.String.{string_bytes};
 ghost use Rattle.filterset_language.specs.Faults.{EndsText};
-ghost use Rattle.filterset_language.specs.Parsing.Position.{position_of, after, advanced, IsAtOrBehind};
+ghost use Rattle.filterset_language.specs.Parsing.Position.{position_of, advanced, IsAtOrBehind};
 ghost use Rattle.filterset_language.specs.Parsing.RawTexts.{plain_len, raw_at, SpelledTo};
-ghost use Rattle.filterset_language.specs.Parsing.Recovery.{ReadsAs, StillStand, GoesOn, EndsBehind, Passes};
+ghost use Rattle.filterset_language.specs.Parsing.Recovery.{ReadsAs, StillStand, GoesOn, EndsBehind};
 
 use crate::parsing::escapes::read_escape;
 use crate::parsing::input::{Input, Read};
@@ -83,28 +83,14 @@ fn skip_raw_text<'a>(
 {
     let mut end = read_plain(input).1;
     while let Some(behind) = end.after("\\") {
-        let next = skip_escape(faults, end, behind)?;
+        let next = match read_escape(behind.rest.as_bytes()) {
+            Some(escape) => behind.advance(escape.len),
+            None => {
+                faults.push(ParseSingleError::InvalidEscapeCharacter(end.backslash()))?;
+                behind
+            }
+        };
         end = read_plain(next).1;
     }
     Ok(end)
-}
-
-/// Skips an escape after its backslash. Reports the backslash if it begins none.
-fn skip_escape<'a>(
-    faults: &mut Vec<ParseSingleError>,
-    backslash: Input<'a>,
-    behind: Input<'a>,
-) -> Result<Input<'a>, AllocError>
-    requires { Some (position_of behind) ≡ after (codes "\\") (position_of backslash) }
-    ensures value { IfOk result (λ r. Passes (position_of behind.entry) (position_of r) faults.old.items faults.new.items) }
-    ensures stand { StillStand backslash.entry faults.old faults.new result }
-    ensures behind { GoesOn behind.entry result }
-{
-    match read_escape(behind.rest.as_bytes()) {
-        Some(escape) => Ok(behind.advance(escape.len)),
-        None => {
-            faults.push(ParseSingleError::InvalidEscapeCharacter(backslash.backslash()))?;
-            Ok(behind)
-        }
-    }
 }

@@ -4,6 +4,7 @@ ghost use Rattle.filterset_grammar.specs.Equality.{same_leaf, same_tree};
 ghost use Rattle.filterset_grammar.specs.EqualityLaws.{same_leaf_equiv, same_leaf_per, same_tree_equiv, same_tree_per};
 ghost use Rattle.filterset_language.specs.Views.{leaf_of, tree_of};
 
+use crate::tree::nodes::ParsedNode;
 use crate::tree::{ParsedExpr, ParsedLeaf};
 
 /// Compares all fields, spans included. Globs are equal if their tokens are.
@@ -46,27 +47,19 @@ impl<S: PartialEq> PartialEq for ParsedExpr<S> {
     ghost laws = { on_per tree_of (same_tree_per S.laws) };
 
     fn eq(&self, other: &ParsedExpr<S>) -> bool {
-        match (self, other) {
-            (ParsedExpr::Not(operator, operand), ParsedExpr::Not(other_operator, other_operand)) =>
+        match (self.node(), other.node()) {
+            (ParsedNode::Not(operator, operand), ParsedNode::Not(other_operator, other_operand)) =>
                 { operator == other_operator && operand == other_operand }
             (
-                ParsedExpr::Union(operator, left, right),
-                ParsedExpr::Union(other_operator, other_left, other_right),
+                ParsedNode::Union(operator, left, right),
+                ParsedNode::Union(other_operator, other_left, other_right),
             ) => operator == other_operator && left == other_left && right == other_right,
             (
-                ParsedExpr::Intersection(operator, left, right),
-                ParsedExpr::Intersection(other_operator, other_left, other_right),
-            ) => operator == other_operator && left == other_left && right == other_right,
-            (
-                ParsedExpr::Difference(operator, left, right),
-                ParsedExpr::Difference(other_operator, other_left, other_right),
-            ) => operator == other_operator && left == other_left && right == other_right,
-            (
-                ParsedExpr::SymmetricDifference(operator, left, right),
-                ParsedExpr::SymmetricDifference(other_operator, other_left, other_right),
-            ) => operator == other_operator && left == other_left && right == other_right,
-            (ParsedExpr::Parens(inner), ParsedExpr::Parens(other_inner)) => inner == other_inner,
-            (ParsedExpr::Set(leaf), ParsedExpr::Set(other_leaf)) => leaf == other_leaf,
+                ParsedNode::Join(joiner, left, right),
+                ParsedNode::Join(other_joiner, other_left, other_right),
+            ) => joiner == other_joiner && left == other_left && right == other_right,
+            (ParsedNode::Parens(inner), ParsedNode::Parens(other_inner)) => inner == other_inner,
+            (ParsedNode::Set(leaf), ParsedNode::Set(other_leaf)) => leaf == other_leaf,
             _ => false,
         }
     }

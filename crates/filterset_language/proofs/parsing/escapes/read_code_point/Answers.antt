@@ -1,5 +1,4 @@
-use Rattle.std.proofs.Common.{ℕ, zero, suc, ◌<◌, ◌≤◌, ◌^◌, ◌≢◌, get_or, arith, rules}
-use Rattle.filterset_language.proofs.EscapeReading.{digit_low}
+use Rattle.std.proofs.Common.{ℕ, zero, suc, ◌<◌, ◌≤◌, ◌^◌, ◌≢◌, arith, rules}
 use Rattle.filterset_language.proofs.parsing.escapes.read_code_point.Goals as goal
 
 -- five digits or less
@@ -26,5 +25,5 @@ overflow_add-code c =
     let ne : c.loop-seen.seen ≢ 6 = search rules in
     let few = inv.few in
     let small = below c.loop-seen.seen c.loop-seen.code (omega arith) inv.small in
-    let low : c.in_ok-code.field-0 < 16 = digit_low (get_or c.args.text.now c.loop-seen.seen 0) c.in_ok-code.field-0 c.in_ok-code.ensures in
+    let low : c.in_ok-code.field-0 < 16 = let v = c.in_ok-code.ensures.value in omega arith in
     omega arith

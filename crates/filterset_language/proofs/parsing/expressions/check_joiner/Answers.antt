@@ -7,4 +7,4 @@ use Rattle.filterset_language.proofs.parsing.expressions.check_joiner.Goals as g
 pub returns-clause-stand : goal.returns-clause-stand
 returns-clause-stand c =
     let none : c.args.joiner ≡ None = option_none c.args.joiner (sym c.is_some.ensures ∙ c.if-is_some.false) in
-    reported _ _ _ _ c.in_ok-push.ensures.items (rw c.up_to.ensures (and_found c.args.start c.args.rest (ap (λ (o : Option Joiner). Some (o, position_of c.args.rest)) (sym none) ∙ c.requires.stands) c.requires.behind))
+    reported _ _ _ _ c.in_ok-push.ensures.items (rw c.up_to.ensures (and_found c.args.start c.args.rest (ap (λ (o : Option Joiner). Some (o, position_of c.args.rest)) (sym none) ∙ c.requires.stands)))

@@ -5,11 +5,11 @@ use Rattle.filterset_language.proofs.parsing.expressions.read_nothing.Goals as g
 
 pub returns-in-Some-clause-stand : goal.returns-in-Some-clause-stand
 returns-in-Some-clause-stand c =
-    reported _ _ _ _ c.in_ok-push.ensures.items (rw c.up_to.ensures (binary_found c.args.input c.args.start c.in-Some.found c.requires.start.text c.in-Some.ensures.value c.in-Some.ensures.behind))
+    reported _ _ _ _ c.in_ok-push.ensures.items (rw c.up_to.ensures (binary_found c.args.input c.args.start c.in-Some.end _ _ c.requires.start.text c.in-Some.ensures.value))
 
 pub returns-in-Some-after_word-clause-stand : goal.returns-in-Some-after_word-clause-stand
 returns-in-Some-after_word-clause-stand c =
-    reported _ _ _ _ c.in_ok-push-2.ensures.items (rw c.up_to-in-Some-after_word.ensures (unary_found c.args.input c.args.start c.in-Some-after_word.end _ _ c.requires.start.text c.in-Some-after_word.ensures.value refl refl (c.in-Some-after_word.ensures.behind (omega arith))))
+    reported _ _ _ _ c.in_ok-push-2.ensures.items (rw c.up_to-in-Some-after_word.ensures (unary_found c.args.input c.args.start c.in-Some-after_word.end _ _ c.requires.start.text c.in-Some-after_word.ensures.value refl refl))
 
 pub returns-clause-stand : goal.returns-clause-stand
 returns-clause-stand c =

@@ -8,7 +8,7 @@ use Rattle.filterset_language.proofs.parsing.matchers.build_pattern.Goals as goa
 
 pub returns-in_ok-push-in-Err-NotBuilt : goal.returns-in_ok-push-in-Err-NotBuilt
 returns-in_ok-push-in-Err-NotBuilt c =
-    let at = c.args.body.span in
-    let rejected : MayBeRejected (string_bytes c.args.body.pattern) = c.in-Err-NotBuilt.ensures.refused c.in-Err-NotBuilt.field-0-is in
-    let On = RefusesBody at (Regex (string_bytes c.args.body.pattern)) in
+    let at = c.args.span in
+    let rejected : MayBeRejected (string_bytes c.args.pattern) = c.in-Err-NotBuilt.ensures.refused c.in-Err-NotBuilt.field-0-is in
+    let On = RefusesBody at (Regex (string_bytes c.args.pattern)) in
     refused (InvalidRegexWithoutMessage at ∷ []) c.in_ok-push-in-Err-NotBuilt.ensures.items (omega arith) (All-cons On (InvalidRegexWithoutMessage at) [] (refl, rejected) (All-nil On)) refl

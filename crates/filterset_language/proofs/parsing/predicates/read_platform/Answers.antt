@@ -1,5 +1,4 @@
-use Rattle.std.proofs.Common.{◌≡◌, ◌≤◌, List, ℕ, [], ◌∷◌, ◌++◌, length, Option, Some, None, true, false, refl, ap, ◌∙◌, subst, arith, ⊎_elim}
-use Rattle.std.proofs.lemmas.Bool.{cases_lt}
+use Rattle.std.proofs.Common.{◌≡◌, ◌≤◌, List, ℕ, [], ◌∷◌, ◌++◌, length, Option, Some, None, refl, ap, ◌∙◌, subst, arith}
 use Rattle.std.specs.Prelude.{codes, string_bytes, IfSome}
 use Rattle.std.specs.{Option.option_map, declared.alloc.Global.Global, declared.string.String.String}
 use Rattle.filterset_faults.specs.declared.error.ParseSingleError.{ParseSingleError}
@@ -8,21 +7,9 @@ use Rattle.filterset_language.specs.Parsing.{PlatformNames.platform_in, RawTexts
 use Rattle.filterset_language.specs.Parsing.{Recovery.Recovers, Recovery.beside, Outcome.Faults}
 use Rattle.filterset_language.specs.Parsing.Descent.{◌>>=◌, between, platform_at}
 use Rattle.filterset_language.proofs.Matching.{platform_recovers, platform_found}
-use Rattle.filterset_language.proofs.Recovering.{recovers_then, refused, reported, keeps_then, bind_none}
+use Rattle.filterset_language.proofs.Recovering.{recovers_then, recovers_none, refused, reported, keeps_then}
 use Rattle.filterset_grammar.specs.Tree.{Platform}
 use Rattle.filterset_language.proofs.parsing.predicates.read_platform.Goals as goal
-
--- the first step gave nothing
-recovers_none : {X Y : Type 0} (f g h : Faults) (r : Option X) (k : X → Option Y) → Recovers f g None r → length g ≤ length h → Recovers f h None (r >>= k)
-recovers_none f g h r k a le = record {
-  grows = omega (arith, a.grows);
-  clean = λ same. absurd (let e : false ≡ true = (a.clean (omega (arith, a.grows))).2 in cc);
-  fault = λ more.
-      ⊎_elim
-      (λ lt. bind_none r k (a.fault lt))
-      (λ ge. absurd (let e : false ≡ true = (a.clean (omega (arith, a.grows))).2 in cc))
-      (cases_lt (length f) (length g));
-}
 
 -- a platform that was not read
 platform_unread : (p s : Position) (f g h : Faults) → s ≡ skip p → Recovers f g None (raw_at s) → length g ≤ length h → Recovers f h None (platform_at p)

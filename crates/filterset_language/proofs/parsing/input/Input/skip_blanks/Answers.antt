@@ -14,16 +14,16 @@ loop-input-init c = record { same = ap skip c.advance-input.ensures.value ∙ c.
 
 pub advance-input-requires-in-loop-input-clause-boundary : goal.advance-input-requires-in-loop-input-clause-boundary
 advance-input-requires-in-loop-input-clause-boundary c =
-    let e = c.blank_len-count.ensures ∙ ap blank_len c.as_bytes.ensures.value in
+    let e = c.blank_len-count.ensures.value ∙ ap blank_len c.as_bytes.ensures.value in
     blank_boundary _ _ (rw c.as_bytes.ensures.value at c.as_bytes.ensures.utf8) e
 
 pub loop-input-preserved : goal.loop-input-preserved
 loop-input-preserved c =
-    let e = c.blank_len-count.ensures ∙ ap blank_len c.as_bytes.ensures.value in
+    let e = c.blank_len-count.ensures.value ∙ ap blank_len c.as_bytes.ensures.value in
     let same = ap skip c.advance-input-in-loop-input.ensures.value ∙ sym (skip_step _ c.loop-input.input.offset c.loop-input.input.rest.now e (omega arith)) ∙ c.loop-input.invariant.same in
     record { same = same; behind = AtOrBehind-then _ _ _ c.loop-input.invariant.behind c.advance-input-in-loop-input.ensures.behind }
 
 pub returns-then-count-eq0-clause-value : goal.returns-then-count-eq0-clause-value
 returns-then-count-eq0-clause-value c =
-    let e = c.blank_len-count.ensures ∙ ap blank_len c.as_bytes.ensures.value in
+    let e = c.blank_len-count.ensures.value ∙ ap blank_len c.as_bytes.ensures.value in
     sym (skip_stop c.loop-input.input.offset c.loop-input.input.rest.now (sym e ∙ c.if-count-eq0.true)) ∙ c.loop-input.invariant.same
