@@ -158,11 +158,12 @@ fn profile<'a>(alloc: Global) -> Result<Arg<'a>, AllocError> {
 }
 
 /// Makes the option of a file with what `rustc` sets for a platform.
-fn cfg<'a>(alloc: Global, name: &'a str, help: &'a str) -> Arg<'a> {
+fn cfg<'a>(alloc: Global, name: &'a str, help: &'a str) -> Result<Arg<'a>, AllocError> {
     Arg::new(alloc, name)
         .long(name)
         .value_name("FILE")
         .help(help)
+        .requires_arg("config")
 }
 
 /// Adds the options of the profile, and of the platforms that its overrides ask about.
@@ -173,13 +174,13 @@ fn with_profile<'a>(alloc: Global, command: Command<'a>) -> Result<Command<'a>, 
         "target-cfg",
         "the output of `rustc --print cfg --target TRIPLE` for the platform that tests are built for",
     );
-    let command = with_argument(command, target.requires_arg("config"))?;
+    let command = with_argument(command, target)?;
     let host = cfg(
         alloc,
         "host-cfg",
         "the output of `rustc --print cfg` for the platform that builds them",
     );
-    with_argument(command, host.requires_arg("config"))
+    with_argument(command, host)
 }
 
 /// Adds the options of the workspace and its default filter.
@@ -242,12 +243,9 @@ fn list<'a>(alloc: Global) -> Result<Command<'a>, AllocError> {
         .arg(color(alloc))
 }
 
-/// Makes a required argument, given by its place.
-fn required_text<'a>(alloc: Global, id: &'a str, name: &'a str, help: &'a str) -> Arg<'a> {
-    Arg::new(alloc, id)
-        .value_name(name)
-        .required(true)
-        .help(help)
+/// Makes an argument that is given by its place.
+fn placed<'a>(alloc: Global, id: &'a str, name: &'a str, help: &'a str) -> Arg<'a> {
+    Arg::new(alloc, id).value_name(name).help(help)
 }
 
 /// Makes the command `compare`.
@@ -266,22 +264,8 @@ fn compare<'a>(alloc: Global) -> Result<Command<'a>, AllocError> {
                 .help("list the tests, and the ids of skipped binaries"),
         )?
         .arg(color(alloc))?
-        .arg(required_text(alloc, "first", "A", "a filterset"))?
-        .arg(required_text(alloc, "second", "B", "another filterset"))
-}
-
-/// Makes the argument of a test binary.
-fn binary<'a>(alloc: Global) -> Arg<'a> {
-    Arg::new(alloc, "binary")
-        .value_name("BINARY_ID")
-        .help("the id of a test binary")
-}
-
-/// Makes the argument of the test that is explained.
-fn test<'a>(alloc: Global) -> Arg<'a> {
-    Arg::new(alloc, "test")
-        .value_name("TEST")
-        .help("the name of a test of the binary")
+        .arg(placed(alloc, "first", "A", "a filterset").required(true))?
+        .arg(placed(alloc, "second", "B", "another filterset").required(true))
 }
 
 /// Makes the command `explain`.
@@ -294,8 +278,8 @@ fn explain<'a>(alloc: Global) -> Result<Command<'a>, AllocError> {
         .arg(filterset(alloc).required(true).help("a filterset"))?;
     with_setting(alloc, command)?
         .arg(color(alloc))?
-        .arg(binary(alloc).required(true))?
-        .arg(test(alloc))
+        .arg(placed(alloc, "binary", "BINARY_ID", "the id of a test binary").required(true))?
+        .arg(placed(alloc, "test", "TEST", "the name of a test of the binary"))
 }
 
 /// Makes the command `overrides`.
@@ -316,8 +300,9 @@ fn overrides<'a>(alloc: Global) -> Result<Command<'a>, AllocError> {
     let command = with_profile(alloc, command)?
         .arg(run_ignored(alloc))?
         .arg(color(alloc))?
-        .arg(binary(alloc))?;
-    with_argument(command, test(alloc).conflicts_with("filterset"))
+        .arg(placed(alloc, "binary", "BINARY_ID", "the id of a test binary"))?;
+    let test = placed(alloc, "test", "TEST", "the name of a test of the binary");
+    with_argument(command, test.conflicts_with("filterset"))
 }
 
 /// Makes a command that asks a question about filtersets and every possible test.
@@ -376,15 +361,6 @@ fn lsp<'a>(alloc: Global) -> Result<Command<'a>, AllocError> {
         );
     let command = with_argument(command, metadata(alloc).requires_arg("list"))?;
     with_argument(command, nextest_list(alloc).requires_arg("metadata"))
-}
-
-/// Makes the command `completions`.
-fn completions<'a>(alloc: Global) -> Result<Command<'a>, AllocError> {
-    let shell = required_text(alloc, "shell", "SHELL", "the shell");
-    Command::new(alloc, "completions")
-        .about("Prints a completion script for a shell")
-        .after_help("Example: filterset completions bash")
-        .arg(shell.value_parser(SHELLS.as_slice()))
 }
 
 /// Adds an argument, if it could be made.
@@ -461,5 +437,10 @@ pub fn arguments<'a>(alloc: Global) -> Result<Command<'a>, AllocError> {
     );
     let command = with_command(command, partition)?;
     let command = with_command(command, lsp(alloc))?;
-    with_command(command, completions(alloc))
+    let shell = placed(alloc, "shell", "SHELL", "the shell");
+    let completions = Command::new(alloc, "completions")
+        .about("Prints a completion script for a shell")
+        .after_help("Example: filterset completions bash")
+        .arg(shell.required(true).value_parser(SHELLS.as_slice()));
+    with_command(command, completions)
 }

@@ -1,9 +1,8 @@
 //! The faults that end a command without an answer, and what they tell people to do next.
 ghost use Rattle.std.specs.Prelude.{◌≡◌, ◌≢◌, alloc_error};
-ghost use Rattle.std.specs.{IoError.error_kind, declared.io.ErrorKind.TheVariants.OutOfMemory};
 ghost use Rattle.filterset_loading.specs.Files.{IsFaultAt, OrMemory};
 
-use crate::input::{INPUT_NAME, name_of};
+use crate::files::{INPUT_NAME, name_of};
 use clap::Error;
 use filterset_configuration::{CfgRefusal, LineageFault};
 use filterset_json::RunFault;
@@ -48,6 +47,7 @@ impl FileRole {
 }
 
 /// Why a file is not used.
+#[derive(Drop)]
 pub enum FileFault {
     /// Reading it failed.
     Unread(io::Error),
@@ -57,30 +57,6 @@ pub enum FileFault {
     Refused(SourceRefusal),
     /// It is not what `rustc` sets for a platform.
     WrongCfg(CfgRefusal),
-}
-
-// By hand, so that a function that drops a fault proves one call.
-impl Drop for FileFault {
-    fn drop(self) {
-        match self {
-            FileFault::Unread(_error) => {}
-            FileFault::NotText => {}
-            FileFault::Refused(_refusal) => {}
-            FileFault::WrongCfg(_refusal) => {}
-        }
-    }
-}
-
-impl FileFault {
-    /// Writes the fault of the file at a path.
-    fn write_at<W: fmt::Write>(&self, f: &mut fmt::Formatter<W>, path: &str) -> fmt::Result {
-        match self {
-            FileFault::Unread(error) => write!(f, "error: cannot read {path}: {error}"),
-            FileFault::NotText => write!(f, "error: {path} is not UTF-8"),
-            FileFault::Refused(refusal) => write!(f, "error: {path}: {refusal}"),
-            FileFault::WrongCfg(refusal) => write!(f, "error: {path}: {refusal}"),
-        }
-    }
 }
 
 /// Why a command gives no answer.
@@ -131,7 +107,7 @@ pub enum CommandFault {
     Run(RunFault),
 }
 
-// By hand, as for `FileFault`.
+// By hand, so that a function that drops a fault proves one call.
 impl Drop for CommandFault {
     fn drop(self) {
         match self {
@@ -171,17 +147,6 @@ impl CommandFault {
         match String::from_str(alloc, name_of(path)) {
             Ok(path) => CommandFault::File { role, path, fault },
             Err(refused) => CommandFault::Run(RunFault::Memory(refused)),
-        }
-    }
-
-    /// Makes the fault of the file at a path that could not be read.
-    pub fn from_read(alloc: Global, role: FileRole, path: &str, error: io::Error) -> CommandFault
-        ensures { OrMemory (λ fault. IsFaultAt role path.now (FileFault.Unread error) fault
-            × (error_kind error ≢ OutOfMemory)) result }
-    {
-        match error.kind() {
-            io::ErrorKind::OutOfMemory => CommandFault::Run(RunFault::Memory(AllocError)),
-            _ => CommandFault::in_file(alloc, role, path, FileFault::Unread(error)),
         }
     }
 
@@ -240,7 +205,12 @@ impl fmt::Display for CommandFault {
                 "error: the command line has no {argument}\nhelp: `filterset --help` lists the commands",
             ),
             CommandFault::File { role, path, fault } => {
-                fault.write_at(f, path.as_str())?;
+                match fault {
+                    FileFault::Unread(error) => write!(f, "error: cannot read {path}: {error}")?,
+                    FileFault::NotText => write!(f, "error: {path} is not UTF-8")?,
+                    FileFault::Refused(refusal) => write!(f, "error: {path}: {refusal}")?,
+                    FileFault::WrongCfg(refusal) => write!(f, "error: {path}: {refusal}")?,
+                }
                 let help = role.help();
                 write!(f, "\nhelp: {help}")
             }

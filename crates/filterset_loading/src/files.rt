@@ -1,12 +1,30 @@
-//! Reading whole files.
-ghost use Rattle.std.specs.Prelude.{◌≡◌, ◌≢◌, IfErr, IfOk, IfSome, List, Option, ℕ, string_bytes};
+//! Reading whole files, and standard input.
+ghost use Rattle.std.specs.Prelude.{◌≡◌, ◌≢◌, IfErr, IfOk, IfSome, List, OnOk, Option, ℕ, string_bytes};
 ghost use Rattle.std.specs.{IoError.error_kind, declared.io.Error.Error, declared.io.ErrorKind.TheVariants.OutOfMemory};
-ghost use Rattle.filterset_loading.specs.Files.{IsFileFault, OrMemory};
+ghost use Rattle.filterset_json.specs.Runs.{AreLeft};
+ghost use Rattle.filterset_loading.specs.{Files.IsFileFault, Files.OrMemory, Files.is_input, Files.name_of, Words.IsInputFault};
 
 use crate::fault::{CommandFault, FileFault, FileRole};
-use crate::input::is_input;
-use std::alloc::Global;
+use filterset_json::{RunFault, Source, read_all};
+use std::alloc::{AllocError, Global};
 use std::{fs, io};
+
+/// What faults call standard input.
+pub const INPUT_NAME: &str = "standard input";
+
+/// Returns whether a path stands for standard input.
+pub fn is_input(path: &str) -> bool
+    ensures { result ≡ is_input path.now }
+{
+    path == "-"
+}
+
+/// Returns what faults call the file at a path.
+pub fn name_of(path: &str) -> &str
+    ensures { result.now ≡ name_of path.now }
+{
+    if is_input(path) { INPUT_NAME } else { path }
+}
 
 /// Where files are read from.
 pub trait FileSource {
@@ -86,10 +104,28 @@ pub fn read_text<F: FileSource>(
 {
     let bytes = match files.read(alloc, path) {
         Ok(bytes) => bytes,
-        Err(error) => return Err(CommandFault::from_read(alloc, role, path, error)),
+        Err(error) if error.kind() == io::ErrorKind::OutOfMemory => {
+            return Err(CommandFault::Run(RunFault::Memory(AllocError)));
+        }
+        Err(error) => {
+            return Err(CommandFault::in_file(alloc, role, path, FileFault::Unread(error)));
+        }
     };
     match String::from_utf8(bytes) {
         Ok(text) => Ok(text),
         Err(_) => Err(CommandFault::in_file(alloc, role, path, FileFault::NotText)),
+    }
+}
+
+/// Reads what standard input has left as text.
+pub fn read_input<R: Source>(alloc: Global, input: &mut R) -> Result<String, CommandFault>
+    ensures whole { IfOk result (λ text. AreLeft (R.left input.old) (string_bytes text)) }
+    ensures refused { IfErr result (OrMemory (IsInputFault (R.left input.old) (R.failed input.new))) }
+    ensures none_failed { OnOk result (R.failed input.new ≡ R.failed input.old) }
+{
+    let bytes = read_all(alloc, input)?;
+    match String::from_utf8(bytes) {
+        Ok(text) => Ok(text),
+        Err(_) => Err(CommandFault::NotText),
     }
 }

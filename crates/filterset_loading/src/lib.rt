@@ -9,11 +9,8 @@ mod configuration;
 mod engines;
 mod fault;
 mod files;
-mod input;
 mod profile;
-mod quoting;
 mod request;
-mod script;
 mod shell;
 mod table;
 mod words;
@@ -22,8 +19,7 @@ mod workspace;
 pub use commands::arguments;
 pub use configuration::{ConfigurationFile, read_configuration_file};
 pub use fault::{CommandFault, FileFault, FileRole};
-pub use files::{FileSource, HostFiles, WithInput};
-pub use input::{INPUT_NAME, name_of, read_input};
+pub use files::{FileSource, HostFiles, INPUT_NAME, WithInput, name_of, read_input};
 pub use profile::{
     KnownPlatforms, ProfileRequest, ProfilesFile, lineage_of, profiles_in, read_facts,
     read_profiles_file, request_of,
@@ -32,8 +28,7 @@ pub use request::{
     Asked, CheckPaths, Decision, DecisionRequest, Request, Task, Texts, WarningRequest,
     WorkspaceRequest,
 };
-pub use script::completion_script;
-pub use shell::Shell;
+pub use shell::{Shell, completion_script};
 pub use words::task_of;
 pub use workspace::{
     Workspace, WorkspacePaths, known_packages, platforms_of, read_list, read_workspace,

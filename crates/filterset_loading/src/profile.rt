@@ -8,8 +8,7 @@ ghost use Rattle.filterset_loading.specs.Files.{IsFileFault, OrMemory};
 
 use crate::configuration::{ConfigurationFile, read_configuration_file};
 use crate::fault::{CommandFault, FileFault, FileRole};
-use crate::files::{FileSource, read_text};
-use crate::input::name_of;
+use crate::files::{FileSource, name_of, read_text};
 use filterset_configuration::{
     Cfg, CfgRefusal, LineageFault, Places, PlatformFacts, Profile, ProfileRefusal, lineage,
     read_cfg, read_profiles,

@@ -3,7 +3,7 @@ ghost use Rattle.std.specs.Prelude.{◌≡◌, ◌≤◌, length};
 ghost use Rattle.filterset_loading.specs.Configurations.{profile_at};
 ghost use Rattle.filterset_loading.specs.Words.{input_count, inputs_of, profile_inputs, text_inputs};
 
-use crate::input::is_input;
+use crate::files::is_input;
 use crate::profile::ProfileRequest;
 use crate::shell::Shell;
 use crate::workspace::WorkspacePaths;
@@ -223,8 +223,7 @@ impl Request<'_> {
                 };
                 text_inputs(texts) + (own + warned)
             }
-            Request::Format { texts, .. } => text_inputs(texts),
-            Request::Simplify { texts, .. } => text_inputs(texts),
+            Request::Format { texts, .. } | Request::Simplify { texts, .. } => text_inputs(texts),
             Request::Ask(asked) => {
                 let own = inputs_of(&[Some(asked.paths.metadata), Some(asked.paths.list)]);
                 own + profile_inputs(&asked.profile)

@@ -1,8 +1,11 @@
-//! The shells.
-ghost use Rattle.std.specs.Prelude.{◌≡◌, ◌≢◌, IfNone, IfSome};
-ghost use Rattle.filterset_loading.specs.Scripts.{end_of, name_of, start_of};
+//! The shells, and the scripts by which they complete command lines.
+ghost use Rattle.std.specs.Prelude.{◌≡◌, ◌≢◌, ◌++◌, IfNone, IfOk, IfSome, OnOk, string_bytes};
+ghost use Rattle.filterset_loading.specs.Scripts.{name_of, quoted, quoted_char, script_between, script_of};
 
 use crate::engines::{BASH_END, BASH_START, FISH_END, FISH_START, ZSH_END, ZSH_START};
+use crate::table::table_of;
+use clap::Command;
+use std::alloc::{AllocError, Global};
 
 /// A shell that completes command lines.
 #[derive(Clone, Copy, Debug, PartialEq, Eq)]
@@ -25,26 +28,60 @@ impl Shell {
             _ => None,
         }
     }
+}
 
-    /// Returns the script up to the table.
-    pub(crate) fn start(self) -> &'static str
-        ensures { result.now ≡ start_of self }
-    {
-        match self {
-            Shell::Bash => BASH_START,
-            Shell::Zsh => ZSH_START,
-            Shell::Fish => FISH_START,
-        }
+/// Writes a character between apostrophes: an apostrophe and a backslash go outside of them, behind a backslash.
+fn push_char(output: &mut String, c: char) -> Result<(), AllocError>
+    ensures { OnOk result (string_bytes output.new ≡ string_bytes output.old ++ quoted_char c) }
+{
+    match c {
+        '\'' => output.push_str("'\\''"),
+        '\\' => output.push_str("'\\\\'"),
+        _ => output.push(c),
     }
+}
 
-    /// Returns the script from the end of the table.
-    pub(crate) fn end(self) -> &'static str
-        ensures { result.now ≡ end_of self }
-    {
-        match self {
-            Shell::Bash => BASH_END,
-            Shell::Zsh => ZSH_END,
-            Shell::Fish => FISH_END,
-        }
+/// Writes a text between apostrophes, which all three shells read alike.
+fn push_quoted(output: &mut String, text: &str) -> Result<(), AllocError>
+    ensures { OnOk result (string_bytes output.new ≡ string_bytes output.old ++ quoted text.now) }
+{
+    for c in text.chars() {
+        push_char(output, c)?;
+    }
+    Ok(())
+}
+
+/// Makes a script of these parts, with the table of a command between them.
+fn script_between(
+    alloc: Global,
+    start: &str,
+    command: &Command<'_>,
+    end: &str,
+) -> Result<String, AllocError>
+    ensures { IfOk result (λ script. string_bytes script ≡ script_between start.now command.now end.now) }
+{
+    let table = table_of(alloc, command)?;
+    let mut script = String::from_str(alloc, start)?;
+    push_quoted(&mut script, table.as_str())?;
+    script.push_str(end)?;
+    Ok(script)
+}
+
+/// Returns the script by which a shell completes the command lines of a program: its commands, their options, and the
+/// values of options that take one of several names. The command must not have been built yet: `clap` then adds `--help`,
+/// which the script has anyway.
+///
+/// Returns an error only if out of memory.
+pub fn completion_script(
+    alloc: Global,
+    shell: Shell,
+    command: &Command<'_>,
+) -> Result<String, AllocError>
+    ensures { IfOk result (λ script. string_bytes script ≡ script_of shell command.now) }
+{
+    match shell {
+        Shell::Bash => script_between(alloc, BASH_START, command, BASH_END),
+        Shell::Zsh => script_between(alloc, ZSH_START, command, ZSH_END),
+        Shell::Fish => script_between(alloc, FISH_START, command, FISH_END),
     }
 }

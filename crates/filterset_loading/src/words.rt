@@ -2,11 +2,11 @@
 ghost use Rattle.std.specs.Prelude.{◌≡◌, ◌⊎◌, IfErr, IfOk, codes, map};
 ghost use Rattle.clap.specs.{Words.found_of, declared.parser.matches.Found.Found};
 ghost use Rattle.filterset_drawing.specs.Columns.{Text};
-ghost use Rattle.filterset_loading.specs.Words.{input_count, ArePathsAsked, AreTextsAsked, AreWarningsAsked, IsAsked, IsAskedBy, IsBudgetAsked, IsColorAsked, IsFaultOf, IsFormAsked, IsGivenFault, IsKindAsked, IsProfileAsked, IsQuestionAsked, IsRunIgnoredAsked, IsTask, IsTextAsked, IsUnasked, IsWordsFault, IsWorkspaceAsked, NamesNoShell, decision_name, given_texts, has_input};
+ghost use Rattle.filterset_loading.specs.Words.{input_count, ArePathsAsked, AreTextsAsked, AreWarningsAsked, IsAsked, IsAskedBy, IsColorAsked, IsFaultOf, IsFormAsked, IsGivenFault, IsKindAsked, IsProfileAsked, IsQuestionAsked, IsRunIgnoredAsked, IsTask, IsTextAsked, IsUnasked, IsWordsFault, IsWorkspaceAsked, NamesNoShell, decision_name, given_texts, has_input};
 ghost use Rattle.filterset_loading.specs.Scripts.{name_of};
 
 use crate::fault::CommandFault;
-use crate::input::is_input;
+use crate::files::is_input;
 use crate::profile::ProfileRequest;
 use crate::request::{
     Asked, CheckPaths, Decision, DecisionRequest, Request, Task, Texts, WarningRequest,
@@ -75,10 +75,37 @@ fn request_named<'m>(name: &str, own: &'m ArgMatches<'_>) -> Result<Request<'m>,
             form: Form::Drawn(color_of(own)),
             texts: texts_of(own)?,
         }),
-        "list" => list_of(own),
-        "compare" => compare_of(own),
-        "explain" => explain_of(own),
-        "overrides" => overrides_of(own),
+        "list" => {
+            let asked = Asked::List {
+                filters: own.get_strs("filterset").unwrap_or(&[]),
+                ignores_default: own.get_flag("ignore"),
+            };
+            ask_of(own, form_of(own), asked)
+        }
+        "compare" => {
+            let asked = Asked::Compare {
+                first: text_of(own, "first")?,
+                second: text_of(own, "second")?,
+                has_names: own.get_flag("tests"),
+            };
+            ask_of(own, Form::Drawn(color_of(own)), asked)
+        }
+        "explain" => {
+            let asked = Asked::Explanation {
+                filter: text_of(own, "filterset")?,
+                binary: text_of(own, "binary")?,
+                test: own.get_str("test"),
+            };
+            ask_of(own, Form::Drawn(color_of(own)), asked)
+        }
+        "overrides" => {
+            let asked = Asked::Overrides {
+                filters: own.get_strs("filterset").unwrap_or(&[]),
+                binary: own.get_str("binary"),
+                test: own.get_str("test"),
+            };
+            ask_of(own, Form::Drawn(color_of(own)), asked)
+        }
         "same" => decision_of(own, Decision::Same),
         "cover" => decision_of(own, Decision::Cover),
         "disjoint" => decision_of(own, Decision::Disjoint),
@@ -111,44 +138,15 @@ fn warnings_of<'m>(matches: &'m ArgMatches<'_>) -> Result<Option<WarningRequest<
     ensures asked { IfOk result (AreWarningsAsked (found_of matches.now)) }
     ensures refused { IfErr result (IsFaultOf (found_of matches.now)) }
 {
-    let Some(list) = matches.get_str("list") else {
+    let Some(_) = matches.get_str("list") else {
         return Ok(None);
     };
     Ok(Some(WarningRequest {
-        paths: WorkspacePaths {
-            metadata: text_of(matches, "metadata")?,
-            list,
-            run_ignored: run_ignored_of(matches),
-        },
+        paths: paths_of(matches)?,
         profile: text_of(matches, "profile")?,
         target_cfg: matches.get_str("target-cfg"),
         host_cfg: matches.get_str("host-cfg"),
     }))
-}
-
-/// Returns what `list` asks for.
-fn list_of<'m>(matches: &'m ArgMatches<'_>) -> Result<Request<'m>, CommandFault>
-    ensures asked { IfOk result (IsAskedBy (codes "list") (found_of matches.now)) }
-    ensures refused { IfErr result (IsFaultOf (found_of matches.now)) }
-{
-    let asked = Asked::List {
-        filters: matches.get_strs("filterset").unwrap_or(&[]),
-        ignores_default: matches.get_flag("ignore"),
-    };
-    ask_of(matches, form_of(matches), asked)
-}
-
-/// Returns what `compare` asks for.
-fn compare_of<'m>(matches: &'m ArgMatches<'_>) -> Result<Request<'m>, CommandFault>
-    ensures asked { IfOk result (IsAskedBy (codes "compare") (found_of matches.now)) }
-    ensures refused { IfErr result (IsFaultOf (found_of matches.now)) }
-{
-    let asked = Asked::Compare {
-        first: text_of(matches, "first")?,
-        second: text_of(matches, "second")?,
-        has_names: matches.get_flag("tests"),
-    };
-    ask_of(matches, Form::Drawn(color_of(matches)), asked)
 }
 
 /// Returns a request that asks this of the workspace of the arguments.
@@ -170,32 +168,6 @@ fn ask_of<'m>(
     }))
 }
 
-/// Returns what `explain` asks for.
-fn explain_of<'m>(matches: &'m ArgMatches<'_>) -> Result<Request<'m>, CommandFault>
-    ensures asked { IfOk result (IsAskedBy (codes "explain") (found_of matches.now)) }
-    ensures refused { IfErr result (IsFaultOf (found_of matches.now)) }
-{
-    let asked = Asked::Explanation {
-        filter: text_of(matches, "filterset")?,
-        binary: text_of(matches, "binary")?,
-        test: matches.get_str("test"),
-    };
-    ask_of(matches, Form::Drawn(color_of(matches)), asked)
-}
-
-/// Returns what `overrides` asks for.
-fn overrides_of<'m>(matches: &'m ArgMatches<'_>) -> Result<Request<'m>, CommandFault>
-    ensures asked { IfOk result (IsAskedBy (codes "overrides") (found_of matches.now)) }
-    ensures refused { IfErr result (IsFaultOf (found_of matches.now)) }
-{
-    let asked = Asked::Overrides {
-        filters: matches.get_strs("filterset").unwrap_or(&[]),
-        binary: matches.get_str("binary"),
-        test: matches.get_str("test"),
-    };
-    ask_of(matches, Form::Drawn(color_of(matches)), asked)
-}
-
 /// Returns what the command that asks this question asks for.
 fn decision_of<'m>(
     matches: &'m ArgMatches<'_>,
@@ -204,6 +176,10 @@ fn decision_of<'m>(
     ensures asked { IfOk result (IsAskedBy (decision_name question) (found_of matches.now)) }
     ensures refused { IfErr result (IsFaultOf (found_of matches.now)) }
 {
+    let profile = profile_of(matches)?;
+    let Ok(budget) = text_of(matches, "budget")?.parse::<u64>() else {
+        return Err(CommandFault::WrongBudget);
+    };
     Ok(Request::Decide(DecisionRequest {
         question,
         form: form_of(matches),
@@ -213,21 +189,9 @@ fn decision_of<'m>(
         list: matches.get_str("list"),
         run_ignored: run_ignored_of(matches),
         default_filter: matches.get_str("default"),
-        profile: profile_of(matches)?,
-        budget: budget_of(matches)?,
+        profile,
+        budget,
     }))
-}
-
-/// Returns the number of steps that a search may take.
-fn budget_of(matches: &ArgMatches<'_>) -> Result<u64, CommandFault>
-    ensures asked { IfOk result (IsBudgetAsked (found_of matches.now)) }
-    ensures refused { IfErr result (IsFaultOf (found_of matches.now)) }
-{
-    let text = text_of(matches, "budget")?;
-    match text.parse::<u64>() {
-        Ok(budget) => Ok(budget),
-        Err(_) => Err(CommandFault::WrongBudget),
-    }
 }
 
 /// Returns the profile, if there is a configuration.

@@ -11,4 +11,4 @@ returns-clause-refused g c =
     let no_text : ¬ IsUtf8 c.in-Ok.bytes.items = λ utf8. let fine = rw c.in-Err-from_utf8.is at (c.from_utf8.ensures.succeeds utf8) in absurd (cc) in
     OrMemory-weaker (IsFaultAt c.args.role path NotText) (IsFileFault content fails c.args.role (λ _ _. ⊥) path)
     (unused_file content fails c.args.role (λ _ _. ⊥) path NotText (c.in-Ok.bytes.items, c.in-Ok.ensures.bytes, no_text))
-    c.in_file.result c.in_file.ensures
+    c.in_file-in-Err-from_utf8.result c.in_file-in-Err-from_utf8.ensures

@@ -2,7 +2,7 @@ use Rattle.std.proofs.Common.{ap, sym, ◌++◌, ◌∙◌, string_bytes}
 use Rattle.std.specs.List.{flat_map}
 use Rattle.std.proofs.lemmas.{Iterator.YieldsList-from_chars, Iterator.Consumers.YieldsList-end, List.map-id}
 use Rattle.filterset_loading.specs.Scripts.{quoted_char}
-use Rattle.filterset_loading.proofs.quoting.push_quoted.Goals as goal
+use Rattle.filterset_loading.proofs.shell.push_quoted.Goals as goal
 
 pub returns : goal.returns
 returns c =

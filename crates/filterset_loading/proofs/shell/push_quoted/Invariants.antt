@@ -1,7 +1,7 @@
 use Rattle.std.proofs.Common.{◌≡◌, ◌++◌, string_bytes}
 use Rattle.std.specs.List.{flat_map}
 use Rattle.filterset_loading.specs.Scripts.{quoted_char}
-use Rattle.filterset_loading.proofs.quoting.push_quoted.Given as goal
+use Rattle.filterset_loading.proofs.shell.push_quoted.Given as goal
 
 -- the characters so far were written
 abbrev pub invariant-loop-c : goal.invariant-loop-c
