@@ -4,7 +4,8 @@ use Rattle.std.specs.{Borrow.Bor, List.enumerate_from, Str.bytes_eq, Str.trim_st
 use Rattle.filterset_drawing.specs.{Columns.Text, Lines.pieces, declared.source.Source.Source}
 use Rattle.filterset_faults.specs.declared.kind.FiltersetKind.{FiltersetKind}
 use Rattle.filterset_faults.specs.declared.kind.FiltersetKind.TheVariants as kinds
-use Rattle.filterset_sources.specs.declared.configuration.ConfiguredFilterset.{ConfiguredFilterset}
+use Rattle.filterset_sources.specs.declared.configuration.{ConfiguredFilterset.ConfiguredFilterset, FilterKey.FilterKey}
+use Rattle.filterset_sources.specs.declared.configuration.FilterKey.TheVariants as keys
 use Rattle.filterset_configuration.specs.{Places.place_at, declared.places.Places.Places}
 use Rattle.filterset_entries.specs.Checked.{TextRow, row_of, text_row}
 use Rattle.filterset_entries.specs.Placements.{Placement, line, literal}
@@ -52,10 +53,15 @@ line_row keeps_blank file kind numbered =
 abbrev pub line_rows : Bool → Bor Source → FiltersetKind → List TextRow
 line_rows keeps_blank file kind = filter_map (line_row keeps_blank file kind) (enumerate_from 0 (lines file.now.text.now))
 
+-- what a filterset under a key of a configuration is
+abbrev pub kind_under : FilterKey → FiltersetKind
+kind_under keys.DefaultFilter = kinds.DefaultFilter
+kind_under keys.Filter = kinds.OverrideFilter
+
 -- a filterset of a configuration is called by its path
 abbrev pub file_row : Option Placement → ConfiguredFilterset → TextRow
 file_row place filterset =
-    record (row_of (string_bytes filterset.path) filterset.kind (string_bytes filterset.text)) { place = place }
+    record (row_of (string_bytes filterset.path) (kind_under filterset.key) (string_bytes filterset.text)) { place = place }
 
 -- where the filterset at this position is in the file, if it was found there
 abbrev pub placement_at : ConfiguredTexts → ℕ → Option Placement

@@ -9,7 +9,7 @@ use crate::question::Question;
 use crate::text::TextEntry;
 use filterset_configuration::{Places, Stretch};
 use filterset_drawing::Source;
-use filterset_sources::ConfiguredFilterset;
+use filterset_sources::{ConfiguredFilterset, FilterKey};
 use nextest_filtering::FiltersetKind;
 use std::alloc::{AllocError, Global};
 
@@ -193,7 +193,10 @@ fn configured_entry<'t>(
 {
     Ok(TextEntry {
         origin: String::from_str(alloc, filterset.path.as_str())?,
-        kind: filterset.kind,
+        kind: match filterset.key {
+            FilterKey::DefaultFilter => FiltersetKind::DefaultFilter,
+            FilterKey::Filter => FiltersetKind::OverrideFilter,
+        },
         text: filterset.text.as_str(),
         place,
     })

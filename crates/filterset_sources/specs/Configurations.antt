@@ -3,25 +3,29 @@ use Rattle.std.specs.Prelude.{◌≡◌, ◌+◌, ◌++◌, ◌==◌, ℕ, List,
 use Rattle.std.specs.Option.{option_map_or}
 use Rattle.toml.specs.Data.{Data, table, Members, no_members, member, as_str, get}
 use Rattle.toml.specs.{Errors.span_start, Parse.parse_document}
-use Rattle.filterset_faults.specs.declared.kind.FiltersetKind.{FiltersetKind}
-use Rattle.filterset_faults.specs.declared.kind.FiltersetKind.TheVariants.{DefaultFilter, OverrideFilter}
 use Rattle.filterset_json.specs.{Places.Place, Shape.Text}
 use Rattle.filterset_sources.specs.Sections.{SectionRow, below, members_under, sections_of, wrong_shape}
 use Rattle.filterset_sources.specs.declared.configuration.Configuration.{Configuration}
 use Rattle.filterset_sources.specs.declared.configuration.ConfiguredFilterset.{ConfiguredFilterset}
+use Rattle.filterset_sources.specs.declared.configuration.FilterKey.{FilterKey}
+use Rattle.filterset_sources.specs.declared.configuration.FilterKey.TheVariants.{DefaultFilter, Filter}
 use Rattle.filterset_sources.specs.declared.refusal.SourceRefusal.{SourceRefusal}
 use Rattle.filterset_sources.specs.declared.refusal.SourceRefusal.TheVariants.{NotToml, OutOfMemory, WrongValue}
 use Rattle.filterset_sources.specs.declared.sections.SectionKind.{SectionKind}
 use Rattle.filterset_sources.specs.declared.sections.SectionKind.TheVariants.{Profile, Override, Script}
 
--- where a filterset is, what it is to be, and its text
+abbrev pub key_name : FilterKey → Text
+key_name DefaultFilter = codes "default-filter"
+key_name Filter = codes "filter"
+
+-- where a filterset is, under which key, and its text
 pub record ConfiguredRow : Type 0 where
   pub path : Text
-  pub kind : FiltersetKind
+  pub key : FilterKey
   pub text : Text
 
 abbrev pub configured_row : ConfiguredFilterset → ConfiguredRow
-configured_row f = record { path = string_bytes f.path; kind = f.kind; text = string_bytes f.text }
+configured_row f = record { path = string_bytes f.path; key = f.key; text = string_bytes f.text }
 
 abbrev pub configured_rows : List ConfiguredFilterset → List ConfiguredRow
 configured_rows filtersets = map configured_row filtersets
@@ -33,17 +37,16 @@ followed_by (Ok rows) (Err place) = Err place
 followed_by (Err place) next = Err place
 
 -- the filterset under a key of the value at a path, if there is one
-abbrev pub filter_under : Text → Text → FiltersetKind → Data → Result (List ConfiguredRow) Place
-filter_under path key is d = option_map_or (λ e.
-    option_map_or (λ found. Ok (record { path = below path key; kind = is; text = found } ∷ []))
-    (as_str e) (Err (below path key, codes "a text"))) (get key d) (Ok [])
+abbrev pub filter_under : Text → FilterKey → Data → Result (List ConfiguredRow) Place
+filter_under path key d = option_map_or (λ e.
+    option_map_or (λ found. Ok (record { path = below path (key_name key); key = key; text = found } ∷ []))
+    (as_str e) (Err (below path (key_name key), codes "a text"))) (get (key_name key) d) (Ok [])
 
--- the filtersets under the keys of a section; `filter` says which tests an override or a script is for
+-- the filtersets of a section
 abbrev pub own_filters : SectionKind → Text → Data → Result (List ConfiguredRow) Place
-own_filters (Profile at) path d = filter_under path (codes "default-filter") DefaultFilter d
-own_filters Override path d = followed_by (filter_under path (codes "default-filter") DefaultFilter d)
-    (filter_under path (codes "filter") OverrideFilter d)
-own_filters Script path d = filter_under path (codes "filter") OverrideFilter d
+own_filters (Profile at) path d = filter_under path DefaultFilter d
+own_filters Override path d = followed_by (filter_under path DefaultFilter d) (filter_under path Filter d)
+own_filters Script path d = filter_under path Filter d
 own_filters _ path d = Ok []
 
 abbrev pub section_filters : SectionRow → Result (List ConfiguredRow) Place

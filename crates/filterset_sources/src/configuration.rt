@@ -1,22 +1,41 @@
 //! Reads the filtersets and test groups of nextest's configuration.
 ghost use Rattle.std.specs.Prelude.{◌≡◌, Err, IfErr, IfOk, Ok, OnOk, Some, codes, map, string_bytes};
 ghost use Rattle.toml.specs.{Parse.parse_document, View.table_view, View.view};
-ghost use Rattle.filterset_sources.specs.Configurations.{IsConfiguration, RefusesConfiguration, RefusesToml, all_filters, configured_rows, filter_under, followed_by, keys_of, line_at, section_filters};
+ghost use Rattle.filterset_sources.specs.Configurations.{IsConfiguration, RefusesConfiguration, RefusesToml, all_filters, configured_rows, filter_under, followed_by, key_name, keys_of, line_at, section_filters};
 ghost use Rattle.filterset_sources.specs.Refusals.{Refuses};
 ghost use Rattle.filterset_sources.specs.Sections.{members_under, section_row, section_rows};
 
 use crate::refusal::SourceRefusal;
 use crate::sections::{Section, SectionKind, sections_of, table_under};
-use filterset_faults::FiltersetKind;
 use std::alloc::{AllocError, Global};
 use toml::{Table, Value};
+
+/// The key of a filterset.
+#[derive(Clone, Copy, Debug)]
+pub enum FilterKey {
+    /// `default-filter`: the default filter of a profile.
+    DefaultFilter,
+    /// `filter`: which tests an override or a script is for.
+    Filter,
+}
+
+impl FilterKey {
+    fn as_str(self) -> &'static str
+        ensures { result.now ≡ key_name self }
+    {
+        match self {
+            FilterKey::DefaultFilter => "default-filter",
+            FilterKey::Filter => "filter",
+        }
+    }
+}
 
 /// A filterset of a configuration.
 #[derive(Debug, Drop)]
 pub struct ConfiguredFilterset {
     /// The path to it, as `profile.ci.overrides[2].filter`.
     pub path: String,
-    pub kind: FiltersetKind,
+    pub key: FilterKey,
     pub text: String,
 }
 
@@ -36,22 +55,22 @@ fn push_filter(
     alloc: Global,
     path: &str,
     value: &Value,
-    key: &str,
-    kind: FiltersetKind,
+    key: FilterKey,
 ) -> Result<(), SourceRefusal>
-    ensures read { OnOk result (followed_by (Ok (configured_rows output.old.items)) (filter_under path.now key.now kind (view value.now))
+    ensures read { OnOk result (followed_by (Ok (configured_rows output.old.items)) (filter_under path.now key (view value.now))
         ≡ Ok (configured_rows output.new.items)) }
-    ensures refused { IfErr result (Refuses (λ place. filter_under path.now key.now kind (view value.now) ≡ Err place)) }
+    ensures refused { IfErr result (Refuses (λ place. filter_under path.now key (view value.now) ≡ Err place)) }
 {
-    let Some(found) = value.get(key) else {
+    let name = key.as_str();
+    let Some(found) = value.get(name) else {
         return Ok(());
     };
-    let path = format!(in alloc; "{path}.{key}")?;
+    let path = format!(in alloc; "{path}.{name}")?;
     let Some(text) = found.as_str() else {
         return Err(SourceRefusal::at(path, "a text"));
     };
     let text = String::from_str(alloc, text)?;
-    output.push(ConfiguredFilterset { path, kind, text })?;
+    output.push(ConfiguredFilterset { path, key, text })?;
     Ok(())
 }
 
@@ -72,19 +91,13 @@ fn push_section(
     let (path, value) = (section.path.as_str(), section.value);
     match section.kind {
         SectionKind::Profile(_) => {
-            let kind = FiltersetKind::DefaultFilter;
-            push_filter(output, alloc, path, value, "default-filter", kind)
+            push_filter(output, alloc, path, value, FilterKey::DefaultFilter)
         }
         SectionKind::Override => {
-            let kind = FiltersetKind::DefaultFilter;
-            push_filter(output, alloc, path, value, "default-filter", kind)?;
-            let kind = FiltersetKind::OverrideFilter;
-            push_filter(output, alloc, path, value, "filter", kind)
+            push_filter(output, alloc, path, value, FilterKey::DefaultFilter)?;
+            push_filter(output, alloc, path, value, FilterKey::Filter)
         }
-        SectionKind::Script => {
-            let kind = FiltersetKind::OverrideFilter;
-            push_filter(output, alloc, path, value, "filter", kind)
-        }
+        SectionKind::Script => push_filter(output, alloc, path, value, FilterKey::Filter),
         _ => Ok(()),
     }
 }
