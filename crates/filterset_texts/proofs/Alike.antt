@@ -1,4 +1,5 @@
 -- Each character is like the greatest cut up to it.
+use Rattle.std.proofs.Common.{rules}
 use Rattle.std.proofs.Common.{◌≡◌, ◌↔◌, ℕ, zero, suc, ◌+◌, ◌<◌, ◌≤◌, Bool, true, false, refl, sym, ap, subst, List, [], ◌∷◌, ◌++◌, inl, inr, ⊎_elim, length, get_or, Option, Some, None, arith}
 use Rattle.std.specs.{Prelude.◌⊎◌, Char.InScalarRange, List.All, List.flat_map}
 use Rattle.std.proofs.lemmas.{Bool.cases_lt, List.Elements.All-head, List.Elements.All-tail}
@@ -65,8 +66,7 @@ range_cuts : (ranges : List (ℕ × ℕ)) (k : ℕ) (r : ℕ × ℕ) → k < len
 range_cuts [] k r short is = absurd (omega (arith, short))
 range_cuts (first ∷ ranges) zero r short is = (inl (ap (λ p. p.0) (sym is)), inr (inl (ap (λ p. p.1 + 1) (sym is))))
 range_cuts (first ∷ ranges) (suc k) r short is =
-    let less : k < length ranges = omega (arith, short) in
-    let (low, high) = range_cuts ranges k r less is in
+    let (low, high) = range_cuts ranges k r (omega (arith, short)) is in
     (inr (inr low), inr (inr high))
 
 ranges_alike : (ranges : List (ℕ × ℕ)) (c g : ℕ) → g ≤ c → NoneBetween (cuts_of_ranges ranges) c g → InRanges ranges c ↔ InRanges ranges g
@@ -88,9 +88,7 @@ ranges_alike ranges c g low between = (
 
 class_alike : (negated : Bool) (ranges : List (ℕ × ℕ)) (c g : ℕ) → g ≤ c → NoneBetween (cuts_of_ranges ranges) c g → InClass negated ranges c ↔ InClass negated ranges g
 class_alike false ranges c g low between = ranges_alike ranges c g low between
-class_alike true ranges c g low between =
-    let same : InRanges ranges c ↔ InRanges ranges g = ranges_alike ranges c g low between in
-    (λ out h. out (same.1 h), λ out h. out (same.0 h))
+class_alike true ranges c g low between = search (rules, arith, ranges_alike)
 
 place_alike : (place : Option Part) (c g : ℕ) → g ≤ c → NoneBetween (cuts_of_place place) c g → Admits place c ↔ Admits place g
 place_alike None c g low between = (λ h. h, λ h. h)

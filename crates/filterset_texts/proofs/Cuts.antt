@@ -1,5 +1,5 @@
 -- Facts that hold together, and of the pieces of a text.
-use Rattle.std.proofs.Common.{◌≡◌, ◌∙◌, ◌++◌, ℕ, List, [], ap, refl, subst, sym, append_assoc}
+use Rattle.std.proofs.Common.{◌≡◌, ◌∙◌, ◌++◌, ℕ, List, [], ap, refl, subst, sym, append_assoc, arith, rules}
 use Rattle.std.proofs.lemmas.List.{append-nil}
 use Rattle.filterset_texts.specs.Cuts.{HoldInTurn, HoldTogether}
 
@@ -10,10 +10,7 @@ pub together_back : (A B : List ℕ → Type 0) → HoldTogether A B → HoldTog
 together_back A B ab text = ((ab text).1, (ab text).0)
 
 pub in_turn_both : (A B C D : List ℕ → Type 0) → HoldTogether A C → HoldTogether B D → HoldTogether (HoldInTurn A B) (HoldInTurn C D)
-in_turn_both A B C D ac bd text = (
-  λ (h : HoldInTurn A B text). (h.0, h.1, h.2, (ac h.0).0 h.3, (bd h.1).0 h.4),
-  λ (h : HoldInTurn C D text). (h.0, h.1, h.2, (ac h.0).1 h.3, (bd h.1).1 h.4),
-)
+in_turn_both A B C D ac bd text = search (rules, arith)
 
 pub in_turn_assoc : (A B C : List ℕ → Type 0) → HoldTogether (HoldInTurn (HoldInTurn A B) C) (HoldInTurn A (HoldInTurn B C))
 in_turn_assoc A B C text = (
@@ -26,13 +23,7 @@ in_turn_assoc A B C text = (
 )
 
 pub in_turn_nothing : (A : List ℕ → Type 0) → HoldTogether A (HoldInTurn A (λ text. text ≡ []))
-in_turn_nothing A text = (
-  λ a. (text, [], sym (append-nil text), a, refl),
-  λ (h : HoldInTurn A (λ rest. rest ≡ []) text). subst A (sym (h.2 ∙ ap (λ z. h.0 ++ z) h.4 ∙ append-nil h.0)) h.3,
-)
+in_turn_nothing A text = search (rules, arith, append-nil)
 
 pub nothing_in_turn : (A : List ℕ → Type 0) → HoldTogether A (HoldInTurn (λ text. text ≡ []) A)
-nothing_in_turn A text = (
-  λ a. ([], text, refl, refl, a),
-  λ (h : HoldInTurn (λ front. front ≡ []) A text). subst A (sym (h.2 ∙ ap (λ z. z ++ h.1) h.3)) h.4,
-)
+nothing_in_turn A text = search (rules, arith)

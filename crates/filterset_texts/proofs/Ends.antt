@@ -1,4 +1,5 @@
 -- The places at the ends of sequences, and the places behind some of the conditions.
+use Rattle.std.proofs.Common.{rules}
 use Rattle.std.proofs.Common.{◌≡◌, ◌↔◌, ℕ, ◌+◌, ◌<◌, ◌≤◌, Bool, true, false, refl, sym, ◌∙◌, ap, subst, List, [], ◌∷◌, ◌++◌, append_assoc, length, take, drop, get_or, map, Option, Some, None, IsTrue, arith, add-one}
 use Rattle.std.specs.declared.{vec.Vec.Vec, alloc.Global.Global}
 use Rattle.std.proofs.Math.{Bool.beq, Bool.not, Seq.take-append-add}
@@ -69,20 +70,17 @@ begins_places (x ∷ xs) = begins_append (places_of_sequences x.sequences.items)
 over_anew : (xs ys : List (Option Part)) (k : ℕ) → BeginsAnew ys → k < length ys → parts_before [] (take (length xs + (k + 1)) (xs ++ ys)) ≡ parts_before [] (take (k + 1) ys)
 over_anew xs [] k begins short = absurd (omega (arith, short))
 over_anew xs (Some part ∷ ys) k begins short = absurd begins
-over_anew xs (None ∷ ys) k begins short =
-    let one : take (k + 1) (None ∷ ys) ≡ None ∷ take k ys = ap (λ (n : ℕ). take n (None ∷ ys)) (add-one k) in
-    ap (parts_before []) (take-append-add xs (None ∷ ys) (k + 1) ∙ ap (λ r. xs ++ r) one) ∙ before_anew [] xs (take k ys) ∙ ap (parts_before []) (sym one)
+over_anew xs (None ∷ ys) k begins short = search (rules, arith, add-one, take-append-add, before_anew)
 
 -- the marks of the places behind some
 pub leads_behind : (xs ys : List (Option Part)) (text : List ℕ) (marks : List Bool) (n : ℕ) → BeginsAnew ys → length xs ≡ n → LeadsTo (xs ++ ys) text marks → LeadsTo ys text (drop n marks)
 leads_behind xs ys text marks n begins count leads = record {
   same_length = omega (arith, length-drop n marks, leads.same_length, length-append xs ys, count);
   each = λ k short.
-      let within : n + k < length (xs ++ ys) = omega (arith, length-append xs ys, count, short) in
       let sum : n + k + 1 ≡ length xs + (k + 1) = omega (arith, count) in
       subst (λ (b : Bool). IsTrue b ↔ Fits (parts_before [] (take (k + 1) ys)) text) (sym (get_or-drop n marks k false))
       (subst (λ (p : List Part). IsTrue (get_or marks (n + k) false) ↔ Fits p text)
-      (ap (λ m. parts_before [] (take m (xs ++ ys))) sum ∙ over_anew xs ys k begins short) (leads.each (n + k) within));
+      (ap (λ m. parts_before [] (take m (xs ++ ys))) sum ∙ over_anew xs ys k begins short) (leads.each (n + k) (omega (arith, length-append xs ys, count, short))));
 }
 
 -- a list at one of its elements
@@ -106,11 +104,9 @@ pub end_marked : (xs : List (Vec Part Global)) (i : ℕ) (x : Vec Part Global) (
     → (more : List (Option Part)) (text : List ℕ) (marks : List Bool) → LeadsTo (places_of_sequences xs ++ more) text marks → IsTrue (get_or marks last false) ↔ Fits x.items text
 end_marked xs i x last short is place more text marks leads =
     let row : List (Option Part) = places_of_sequences xs ++ more in
-    let count = place_count_more xs i x short is in
-    let within : last < length row = omega (arith, length-append (places_of_sequences xs) more, length-places_of_sequences xs, count, place) in
-    let whole : take i xs ++ x ∷ drop (i + 1) xs ≡ xs = at_item xs i x short is in
+    let within : last < length row = omega (arith, length-append (places_of_sequences xs) more, length-places_of_sequences xs, place_count_more xs i x short is, place) in
     let parts : parts_before [] (take (last + 1) row) ≡ x.items =
-    ap (λ s. parts_before [] (take (last + 1) (places_of_sequences s ++ more))) (sym whole)
+    ap (λ s. parts_before [] (take (last + 1) (places_of_sequences s ++ more))) (sym (at_item xs i x short is))
     ∙ parts_at_end (take i xs) x (drop (i + 1) xs) more (last + 1) (ap (λ n. n + 1) place) in
     subst (λ (p : List Part). IsTrue (get_or marks last false) ↔ Fits p text) parts (leads.each last within)
 

@@ -1,5 +1,5 @@
 -- The sequences of each kind of matcher.
-use Rattle.std.proofs.Common.{◌≡◌, ◌-◌, ◌^◌, ◌≤◌, ℕ, Bool, IsUtf8, List, arith, length, min}
+use Rattle.std.proofs.Common.{◌≡◌, ◌-◌, ◌^◌, ◌≤◌, ℕ, Bool, IsUtf8, List, arith, length, min, rules}
 use Rattle.std.specs.{Prelude.chars, Str.Iter.HasSubslice, declared.vec.Vec.Vec, declared.alloc.Global.Global}
 use Rattle.filterset_glob.specs.{Matching.Matches, Tokens.Tokens}
 use Rattle.filterset_matchers.specs.Matcher as matcher
@@ -33,8 +33,4 @@ contains_made sequences value implicit limit own are one few = record {
 pub glob_made : (sequences : Vec (Vec Part Global) Global) (own : List ℕ) (tokens : Tokens) (implicit : Bool) (limit : ℕ)
     → HoldTogether (FitsSome sequences.items) (Matches tokens) → length sequences.items ≤ sequence_count tokens → min (sequence_count tokens) (2 ^ 64 - 1) ≤ limit
     → AreSequencesOf (matcher.Glob own tokens implicit) limit sequences.items
-glob_made sequences own tokens implicit limit are many few = record {
-  matched = λ text spelled. are (chars text);
-  few = omega (arith, many, few, sequences.ok.0, sequences.ok.1, sequences.small);
-  no_pattern = λ not. not;
-}
+glob_made sequences own tokens implicit limit are many few = search (rules, arith)

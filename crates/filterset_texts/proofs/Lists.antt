@@ -15,8 +15,7 @@ any_weaker P Q xs f (k, x, short, is, p) = (k, x, short, is, f x p)
 
 pub none_of : {X : Type 0} (P : X → Type 0) (xs : List X) (n : ℕ) → length xs ≤ n → All (λ x. P x → ⊥) (take n xs) → Any P xs → ⊥
 none_of P xs n long all (k, x, short, is, p) =
-    let same : take n xs ≡ xs = take_all n xs long in
-    let whole : All (λ x. P x → ⊥) xs = subst (All (λ x. P x → ⊥)) same all in
+    let whole : All (λ x. P x → ⊥) xs = subst (All (λ x. P x → ⊥)) (take_all n xs long) all in
     whole k x short (subst P (sym is) p)
 
 -- two tests of one fact

@@ -1,4 +1,5 @@
 -- Marks of places, one after the other.
+use Rattle.std.proofs.Common.{rules}
 use Rattle.std.proofs.Common.{◌≡◌, ◌↔◌, ℕ, zero, suc, ◌+◌, ◌<◌, Bool, false, refl, sym, ◌∙◌, ap, subst, List, [], ◌∷◌, ◌++◌, inl, inr, ⊎_elim, append_assoc, length, take, get_or, Option, Some, None, IsTrue, arith, below_more}
 use Rattle.std.specs.{Borrow.Bor, Prelude.◌⊎◌, Prelude.◌||◌, Prelude.◌&&◌}
 use Rattle.std.proofs.lemmas.Bool.{false≢true, and_parts, and_from, or_cases, or_left, or_right}
@@ -43,15 +44,7 @@ pub record IsMarkedTo (row : List (Option Part)) (text : List ℕ) (i : ℕ) (re
 pub marked_more : (row : List (Option Part)) (text : List ℕ) (i : ℕ) (reached next : Bool) (marks : List Bool) → length marks ≡ i
     → IsMarkedTo row text i reached marks → IsTrue next ↔ Fits (parts_at row (i + 1)) text
     → IsMarkedTo row text (i + 1) next (marks ++ next ∷ [])
-marked_more row text i reached next marks count m here = record {
-  each = below_more (λ k. IsTrue (get_or (marks ++ next ∷ []) k false) ↔ Fits (parts_at row (k + 1)) text) i
-      (λ k less. let bound : k < length marks = omega arith in
-      let same : get_or (marks ++ next ∷ []) k false ≡ get_or marks k false = get_or_append_left marks (next ∷ []) false k bound in
-      subst (λ (b : Bool). IsTrue b ↔ Fits (parts_at row (k + 1)) text) (sym same) (m.each k less))
-      (let same : get_or (marks ++ next ∷ []) i false ≡ next = get_or_push marks next false i count in
-      subst (λ (b : Bool). IsTrue b ↔ Fits (parts_at row (i + 1)) text) (sym same) here);
-  last = here;
-}
+marked_more row text i reached next marks count m here = search (rules, arith, below_more, get_or_append_left, get_or_push)
 
 -- the same, for places that are given by references
 pub marked_next : (places : List (Option (Bor Part))) (text : List ℕ) (i : ℕ) (place : Option (Bor Part)) (known : Option Part) (reached next told : Bool) (marks more : List Bool)
@@ -61,10 +54,9 @@ pub marked_next : (places : List (Option (Bor Part))) (text : List ℕ) (i : ℕ
 marked_next places text i place known reached next told marks more short is same_place same_next count pushed m here =
     let row : List (Option Part) = row_of places in
     let within : i < length row = subst (λ n. i < n) (sym (length-map places place_of)) short in
-    let parts : parts_at row (i + 1) ≡ parts_behind (parts_at row i) known = parts_more row i known within (row_at places i place short is ∙ same_place) in
     let fits : IsTrue next ↔ Fits (parts_at row (i + 1)) text =
     subst (λ (b : Bool). IsTrue b ↔ Fits (parts_at row (i + 1)) text) (sym same_next)
-    (subst (λ (p : List Part). IsTrue told ↔ Fits p text) (sym parts) here) in
+    (subst (λ (p : List Part). IsTrue told ↔ Fits p text) (sym (parts_more row i known within (row_at places i place short is ∙ same_place))) here) in
     subst (IsMarkedTo row text (i + 1) next) (sym pushed) (marked_more row text i reached next marks count m fits)
 
 -- the start
@@ -95,12 +87,7 @@ begun text c = (λ h. absurd (false≢true h), λ is. absurd (no_end text c (sym
 pub follow_one : (parts : List Part) (negated : Bool) (ranges : Vec (ℕ × ℕ) Global) (text : List ℕ) (c : ℕ) (was admitted : Bool)
     → IsTrue was ↔ Fits parts text → IsTrue admitted ↔ InClass negated ranges.items c
     → IsTrue (was && admitted) ↔ Fits (parts ++ part.One negated ranges ∷ []) (text ++ c ∷ [])
-follow_one parts negated ranges text c was admitted fits admits = (
-  λ h. let both = and_parts was admitted h in last_one parts negated ranges text c (fits.0 both.0) (admits.0 both.1),
-  λ all. let (front, d, is, own, last) = one_last parts negated ranges (text ++ c ∷ []) all in
-      let same = same_from_push text front c d is in
-      and_from was admitted (fits.1 (subst (Fits parts) (sym same.0) own)) (admits.1 (subst (InClass negated ranges.items) (sym same.1) last)),
-)
+follow_one parts negated ranges text c was admitted fits admits = search (rules, arith, and_parts, last_one, one_last, same_from_push, and_from)
 
 -- a text that ends in c, cut in two: all is in front, or the second piece ends in c
 cut_last : (text front piece : List ℕ) (c : ℕ) → text ++ c ∷ [] ≡ front ++ piece
@@ -110,9 +97,8 @@ cut_last [] (d ∷ []) piece c is = inl (let same : c ≡ d = cc in ap (λ x. x 
 cut_last [] (d ∷ e ∷ front) piece c is = absurd (cc)
 cut_last (b ∷ text) (d ∷ front) piece c is =
     let head : b ≡ d = cc in
-    let tail : text ++ c ∷ [] ≡ front ++ piece = cc in
     ⊎_elim (λ whole. inl (ap (λ r. d ∷ r) whole ∙ ap (λ x. x ∷ (text ++ c ∷ [])) (sym head)))
-    (λ (less, same). inr (less, ap (λ r. b ∷ r) same ∙ ap (λ x. x ∷ (front ++ less)) head)) (cut_last text front piece c tail)
+    (λ (less, same). inr (less, ap (λ r. b ∷ r) same ∙ ap (λ x. x ∷ (front ++ less)) head)) (cut_last text front piece c cc)
 
 pub follow_any : (parts : List Part) (text : List ℕ) (c : ℕ) (reached was : Bool)
     → IsTrue reached ↔ Fits parts (text ++ c ∷ []) → IsTrue was ↔ Fits (parts ++ part.Any ∷ []) text

@@ -1,5 +1,5 @@
 -- What sequences match that are appended, pushed or joined.
-use Rattle.std.proofs.Common.{◌≡◌, ◌↔◌, ◌∙◌, ◌+◌, ◌++◌, ◌<◌, ◌⊎◌, ⊎_elim, ℕ, zero, suc, List, [], ◌∷◌, ap, arith, get_or, inl, inr, length, refl, subst, sym, take}
+use Rattle.std.proofs.Common.{◌≡◌, ◌↔◌, ◌∙◌, ◌+◌, ◌++◌, ◌<◌, ◌⊎◌, ⊎_elim, ℕ, zero, suc, List, [], ◌∷◌, ap, arith, get_or, inl, inr, length, refl, subst, sym, take, rules}
 use Rattle.std.proofs.lemmas.List.{take_more, append_assoc}
 use Rattle.std.specs.{List.Any, declared.alloc.Global.Global, declared.vec.Vec.Vec}
 use Rattle.filterset_texts.specs.Cuts.{HoldInTurn, HoldTogether}
@@ -33,9 +33,8 @@ pub fits_pushed : (start sequence parts : List Part) (i : ℕ) (one copy : Part)
     → HoldTogether (Fits sequence) (HoldInTurn (Fits start) (Fits (take i parts)))
     → HoldTogether (Fits (sequence ++ copy ∷ [])) (HoldInTurn (Fits start) (Fits (take (i + 1) parts)))
 fits_pushed start sequence parts i one copy lt at same so_far =
-    let more : take (i + 1) parts ≡ take i parts ++ one ∷ [] = take_more parts i one lt ∙ ap (λ z. take i parts ++ z ∷ []) at in
     let S = Fits start in let T = Fits (take i parts) in let O = Fits (one ∷ []) in
-    subst (λ (xs : List Part). HoldTogether (Fits (sequence ++ copy ∷ [])) (HoldInTurn S (Fits xs))) (sym more)
+    subst (λ (xs : List Part). HoldTogether (Fits (sequence ++ copy ∷ [])) (HoldInTurn S (Fits xs))) (sym (take_more parts i one lt ∙ ap (λ z. take i parts ++ z ∷ []) at))
     (together_then (Fits (sequence ++ copy ∷ [])) (HoldInTurn (Fits sequence) (Fits (copy ∷ []))) (HoldInTurn S (Fits (take i parts ++ one ∷ []))) (fits_append sequence (copy ∷ []))
     (together_then (HoldInTurn (Fits sequence) (Fits (copy ∷ []))) (HoldInTurn (HoldInTurn S T) O) (HoldInTurn S (Fits (take i parts ++ one ∷ []))) (in_turn_both (Fits sequence) (Fits (copy ∷ [])) (HoldInTurn S T) O so_far same)
     (together_then (HoldInTurn (HoldInTurn S T) O) (HoldInTurn S (HoldInTurn T O)) (HoldInTurn S (Fits (take i parts ++ one ∷ []))) (in_turn_assoc S T O)
@@ -44,10 +43,7 @@ fits_pushed start sequence parts i one copy lt at same so_far =
 -- an empty sequence that copies of two are appended to
 pub fits_copied : (first joined fronts backs : List Part) → HoldTogether (Fits first) (HoldInTurn (Fits []) (Fits fronts))
     → HoldTogether (Fits joined) (HoldInTurn (Fits first) (Fits backs)) → HoldTogether (Fits joined) (HoldInTurn (Fits fronts) (Fits backs))
-fits_copied first joined fronts backs one other =
-    let F = Fits fronts in let B = Fits backs in
-    let front : HoldTogether (Fits first) F = together_then (Fits first) (HoldInTurn (Fits []) F) F one (together_back F (HoldInTurn (Fits []) F) (nothing_in_turn F)) in
-    together_then (Fits joined) (HoldInTurn (Fits first) B) (HoldInTurn F B) other (in_turn_both (Fits first) B F B front (λ text. (λ b. b, λ b. b)))
+fits_copied first joined fronts backs one other = search (rules, arith, together_then, together_back, nothing_in_turn, in_turn_both)
 
 any_cons_from : {X : Type 0} (P : X → Type 0) (x : X) (xs : List X) (k : ℕ) (y : X) → k < length (x ∷ xs) → get_or (x ∷ xs) k y ≡ y → P y → P x ⊎ Any P xs
 any_cons_from P x xs zero y lt at p = inl (subst P (sym at) p)
@@ -98,10 +94,7 @@ abbrev pub FitsOrBegins : List (Vec Part Global) → (List ℕ → Type 0) → L
 FitsOrBegins old Front backs text = FitsSome old text ⊎ HoldInTurn Front (FitsSome backs) text
 
 pub begun_none : (old : List (Vec Part Global)) (Front : List ℕ → Type 0) → HoldTogether (FitsSome old) (FitsOrBegins old Front [])
-begun_none old Front text = (
-  λ h. inl h,
-  ⊎_elim (λ h. h) (λ (h : HoldInTurn Front (FitsSome []) text). absurd (any_none (λ (s : Vec Part Global). Fits s.items h.1) h.4)),
-)
+begun_none old Front text = search (rules, arith, any_none)
 
 pub begun_more : (old joined backs : List (Vec Part Global)) (Front : List ℕ → Type 0) (one back : Vec Part Global)
     → HoldTogether (Fits one.items) (HoldInTurn Front (Fits back.items)) → HoldTogether (FitsSome joined) (FitsOrBegins old Front backs)
@@ -118,10 +111,7 @@ begun_more old joined backs Front one back new so_far text =
 
 -- no fronts
 pub in_turn_none : (Back : List ℕ → Type 0) → HoldTogether (FitsSome []) (HoldInTurn (FitsSome []) Back)
-in_turn_none Back text = (
-  λ h. absurd (any_none (λ (s : Vec Part Global). Fits s.items text) h),
-  λ (h : HoldInTurn (FitsSome []) Back text). absurd (any_none (λ (s : Vec Part Global). Fits s.items h.0) h.3),
-)
+in_turn_none Back text = search (rules, arith, any_none)
 
 -- a front more
 pub in_turn_more : (joined more fronts backs : List (Vec Part Global)) (front : Vec Part Global)

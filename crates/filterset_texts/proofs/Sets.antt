@@ -52,7 +52,6 @@ few : (states : List State) (n : ℕ) → All (λ (state : State). length state.
 unfolding code_of_state
 few states n long distinct =
     let codes : List ℕ = map code_of_state states in
-    let count : length codes ≡ length states = length-map states code_of_state in
     let unlike : AllPairs (λ (x y : ℕ). x ≢ y) codes =
     pairs_map code_of_state (λ (x y : ℕ). x ≢ y) states
     (λ i j d less short same. distinct i j d less short
@@ -61,7 +60,7 @@ few states n long distinct =
     let small : All (λ x. x < 2 ^ n) codes =
     All-map (λ x. x < 2 ^ n) code_of_state states
     (λ k d short. subst (λ m. code_of (get_or states k d).marks.items < 2 ^ m) (long k d short) (code_below (get_or states k d).marks.items)) in
-    subst (λ k. k ≤ 2 ^ n) count
+    subst (λ k. k ≤ 2 ^ n) (length-map states code_of_state)
     (length-le_from_distinct_below codes (2 ^ n) (IsDistinct-from_AllPairs Decides-eqb codes unlike)
     (λ q is. let (k, x, short, at, found) = Any-from_list_any (eqb q) codes is in
     subst (λ y. y < 2 ^ n) (at ∙ sym ((Decides-eqb q x).0 found)) (small k x short)))
@@ -85,10 +84,9 @@ unfolding bytes_of
 texts_apart conditions states are =
     pairs_map bytes_of (LeadApart conditions) states
     (λ i j d less short marks first second.
-    let within : i < length states = omega (arith, less, short) in
     let row : List (Option Part) = places_of conditions in
     are.distinct i j d less short
-    (leads_once row (chars (bytes_of (get_or states i d))) (get_or states i d).marks.items marks (are.each i d within) first
+    (leads_once row (chars (bytes_of (get_or states i d))) (get_or states i d).marks.items marks (are.each i d (omega (arith, less, short))) first
     ∙ sym (leads_once row (chars (bytes_of (get_or states j d))) (get_or states j d).marks.items marks (are.each j d short) second)))
 
 -- the texts of states, no two of which lead to the same places

@@ -1,5 +1,5 @@
 -- Sequences of the characters of a text, and texts as bytes and as characters.
-use Rattle.std.proofs.Common.{◌≡◌, ◌↔◌, ◌∙◌, ◌++◌, ℕ, IsUtf8, List, [], ◌∷◌, ap, length, refl, subst, sym, take}
+use Rattle.std.proofs.Common.{◌≡◌, ◌↔◌, ◌∙◌, ◌++◌, ℕ, IsUtf8, List, [], ◌∷◌, ap, length, refl, subst, sym, take, arith, rules}
 use Rattle.std.proofs.lemmas.List.{append-nil, append_assoc, take_at}
 use Rattle.std.proofs.lemmas.Str.{IsUtf8-take, chars-append, chars-nil, encodes-append, encodes-chars}
 use Rattle.std.specs.{Prelude.chars, Prelude.encode_utf8_all, Str.Iter.HasSubslice}
@@ -14,10 +14,7 @@ abbrev pub IsText : List ℕ → List ℕ → Type 0
 IsText own text = text ≡ own
 
 texts_append : (front back : List ℕ) → HoldTogether (HoldInTurn (IsText front) (IsText back)) (IsText (front ++ back))
-texts_append front back text = (
-  λ (h : HoldInTurn (IsText front) (IsText back) text). h.2 ∙ ap (λ z. z ++ h.1) h.3 ∙ ap (λ z. front ++ z) h.4,
-  λ is. (front, back, is, refl, refl),
-)
+texts_append front back text = search (rules, arith)
 
 -- a character more
 pub spelled_more : (start sequence : List Part) (spelled : List ℕ) (c : ℕ) (one : Part) → HoldTogether (Fits (one ∷ [])) (IsText (c ∷ []))

@@ -1,5 +1,5 @@
 -- The texts that single tokens match, and the sequences that they are expanded to.
-use Rattle.std.proofs.Common.{◌≡◌, ◌↔◌, ◌∙◌, ◌≤◌, ◌++◌, ◌⊎◌, ⊎_elim, ℕ, List, [], ◌∷◌, Bool, false, true, ap, arith, inl, inr, refl, subst, sym}
+use Rattle.std.proofs.Common.{◌≡◌, ◌↔◌, ◌∙◌, ◌≤◌, ◌++◌, ◌⊎◌, ⊎_elim, ℕ, List, [], ◌∷◌, Bool, false, true, ap, arith, inl, inr, refl, subst, sym, rules}
 use Rattle.std.proofs.lemmas.List.{append-nil}
 use Rattle.std.specs.declared.{vec.Vec.Vec, alloc.Global.Global}
 use Rattle.filterset_glob.specs.Matching.{EndsInSlash, InClass, InRanges, MatchesToken, slash}
@@ -10,19 +10,13 @@ use Rattle.filterset_texts.specs.declared.part.Part.TheVariants as part
 
 -- the range from a character to itself
 in_own_range : (c d : ℕ) → InRanges ((c, c) ∷ []) d ↔ (d ≡ c)
-in_own_range c d =
-    let P = λ (r : ℕ × ℕ). (r.0 ≤ d) × (d ≤ r.1) in
-    let own = any_cons P (c, c) [] in (
-      λ h. ⊎_elim (λ (p : (c ≤ d) × (d ≤ c)). omega (arith, p)) (λ none. absurd (any_none P none)) (own.0 h),
-      λ is. own.1 (inl (omega (arith, is), omega (arith, is))),
-    )
+in_own_range c d = search (rules, arith, any_cons, any_none)
 
 -- the one character of a range from it to itself
 pub literal_fits : (ranges : Vec (ℕ × ℕ) Global) (c : ℕ) → ranges.items ≡ (c, c) ∷ [] → HoldTogether (Fits (part.One false ranges ∷ [])) (λ text. text ≡ c ∷ [])
 literal_fits ranges c are text = (
   λ (h : Fits (part.One false ranges ∷ []) text).
-      let same : h.0 ≡ c = (in_own_range c h.0).0 (subst (λ (r : List (ℕ × ℕ)). InRanges r h.0) are h.3) in
-      h.2 ∙ ap (λ z. h.0 ∷ z) h.4 ∙ ap (λ z. z ∷ []) same,
+      h.2 ∙ ap (λ z. h.0 ∷ z) h.4 ∙ ap (λ z. z ∷ []) ((in_own_range c h.0).0 (subst (λ (r : List (ℕ × ℕ)). InRanges r h.0) are h.3)),
   λ is. (c, [], is, subst (λ (r : List (ℕ × ℕ)). InRanges r c) (sym are) ((in_own_range c c).1 refl), refl),
 )
 
@@ -42,10 +36,7 @@ IsSlash one = HoldTogether (Fits (one ∷ [])) (λ text. text ≡ slash ∷ [])
 
 -- any text, and a slash
 behind_fits : (last : Part) → IsSlash last → HoldTogether (Fits (part.Any ∷ last ∷ [])) EndsInSlash
-behind_fits last is text = (
-  λ (h : Fits (part.Any ∷ last ∷ []) text). (h.0, h.2 ∙ ap (λ z. h.0 ++ z) ((is h.1).0 h.3)),
-  λ (h : EndsInSlash text). (h.0, slash ∷ [], h.1, (is (slash ∷ [])).1 refl),
-)
+behind_fits last is text = search (rules, arith)
 
 -- a slash, and what more parts match
 ahead_fits : (first : Part) (parts : List Part) → IsSlash first → HoldTogether (Fits (first ∷ parts)) (λ text. (rest : List ℕ) × (text ≡ slash ∷ rest) × Fits parts rest)
@@ -90,15 +81,8 @@ pub star_fits : HoldTogether (Fits (part.Any ∷ [])) (MatchesToken star)
 star_fits text = (λ f. tt, λ any. (text, [], sym (append-nil text), refl))
 
 pub class_fits : (negated : Bool) (ranges : Vec (ℕ × ℕ) Global) (own : List (ℕ × ℕ)) → ranges.items ≡ own → HoldTogether (Fits (part.One negated ranges ∷ [])) (MatchesToken (class negated own))
-class_fits negated ranges own are text = (
-  λ (h : Fits (part.One negated ranges ∷ []) text). (h.0, h.2 ∙ ap (λ z. h.0 ∷ z) h.4, subst (λ (r : List (ℕ × ℕ)). InClass negated r h.0) are h.3),
-  λ (h : MatchesToken (class negated own) text). (h.0, [], h.1, subst (λ (r : List (ℕ × ℕ)). InClass negated r h.0) (sym are) h.2, refl),
-)
+class_fits negated ranges own are text = search (rules, arith)
 
 -- no ranges: each character is in none
 pub any_char_fits : (ranges : Vec (ℕ × ℕ) Global) → ranges.items ≡ [] → HoldTogether (Fits (part.One true ranges ∷ [])) (MatchesToken any_char)
-any_char_fits ranges none text =
-    let own = class_fits true ranges [] none text in (
-      λ f. let h = own.0 f in (h.0, h.1, tt),
-      λ (h : MatchesToken any_char text). own.1 (h.0, h.1, λ within. any_none (λ (r : ℕ × ℕ). (r.0 ≤ h.0) × (h.0 ≤ r.1)) within),
-    )
+any_char_fits ranges none text = search (rules, arith, class_fits, any_none)

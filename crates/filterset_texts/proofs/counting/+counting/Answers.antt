@@ -1,4 +1,4 @@
-use Rattle.std.proofs.Common.{arith, ◌≡◌, ◌+◌, ◌-◌, ◌^◌, ◌∷◌, [], ap, drop, max}
+use Rattle.std.proofs.Common.{arith, ◌≡◌, ◌+◌, ◌-◌, ◌^◌, ◌∷◌, [], ap, drop, max, rules}
 use Rattle.std.proofs.lemmas.List.{drop_all}
 use Rattle.filterset_glob.specs.Tokens.{branches_of, token_of, tokens_of}
 use Rattle.filterset_glob.proofs.{Bridges.token_of_group, Items.drop_item}
@@ -11,28 +11,11 @@ count_sequences-loop-token-preserved t c =
     let tokens = c.args.tokens.now in
     let i = c.loop-token.token-index in
     let x = c.token-item.result in
-    let here : drop i tokens ≡ x ∷ drop (i + 1) tokens = drop_item tokens i x c.loop-token-test.true c.token-item.is in
-    let so_far = rw here at c.loop-token.invariant in
+    let so_far = rw (drop_item tokens i x c.loop-token-test.true c.token-item.is) at c.loop-token.invariant in
     record {
       counted = capped_more c.loop-token.count c.count_token_sequences.result c.saturating_mul-count.result (token_sequence_count (token_of x)) (sequence_count (tokens_of (drop (i + 1) tokens))) (sequence_count (tokens_of tokens)) (2 ^ 64 - 1) c.count_token_sequences.ensures c.saturating_mul-count.ensures so_far.counted;
       small = omega (arith, c.saturating_mul-count.ensures);
     }
 
-pub count_sequences-returns : goal.count_sequences-returns
-count_sequences-returns t c =
-    let none : drop c.loop-token.token-index c.args.tokens.now ≡ [] = drop_all c.loop-token.token-index c.args.tokens.now c.loop-token-test.false in
-    let all = rw none at c.loop-token.invariant.counted in
-    omega (arith, all, c.loop-token.invariant.small)
-
-pub count_branches_sequences-returns : goal.count_branches_sequences-returns
-count_branches_sequences-returns t c =
-    let none : drop c.loop-branch.branch-index c.args.branches.now ≡ [] = drop_all c.loop-branch.branch-index c.args.branches.now c.loop-branch-test.false in
-    let all = rw none at c.loop-branch.invariant.counted in
-    omega (arith, all, c.loop-branch.invariant.small)
-
 pub count_token_sequences-returns-in-Alternates : goal.count_token_sequences-returns-in-Alternates
-count_token_sequences-returns-in-Alternates t c =
-    let group = token_of_group c.args.token.now c.in-Alternates.branches c.in-Alternates.is in
-    let is : token_sequence_count (token_of c.args.token.now) ≡ max (branches_sequence_count (branches_of c.in-Alternates.branches.items)) 1 = ap token_sequence_count group in
-    let counted = rw c.deref.ensures.value at c.count_branches_sequences.ensures in
-    omega (arith, is, counted, c.max.ensures)
+count_token_sequences-returns-in-Alternates t c = search (rules, arith, token_of_group)

@@ -3,9 +3,6 @@ use Rattle.filterset_texts.specs.Parts.{Fits}
 use Rattle.filterset_texts.proofs.{Cuts.in_turn_nothing, Sequences.fits_pushed}
 use Rattle.filterset_texts.proofs.joining.append_copies.Goals as goal
 
-pub loop-part-init : goal.loop-part-init
-loop-part-init c = in_turn_nothing (Fits c.args.sequence.now.items)
-
 pub loop-part-preserved : goal.loop-part-preserved
 loop-part-preserved c =
     let parts = c.args.parts.now in

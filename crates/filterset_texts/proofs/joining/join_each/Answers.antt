@@ -4,12 +4,6 @@ use Rattle.filterset_texts.specs.Parts.{FitsSome}
 use Rattle.filterset_texts.proofs.Sequences.{in_turn_more, in_turn_none}
 use Rattle.filterset_texts.proofs.joining.join_each.Goals as goal
 
-pub loop-front-init : goal.loop-front-init
-loop-front-init c = rw c.new-joined.ensures.items record {
-  matched = in_turn_none (FitsSome c.args.backs.now);
-  count = omega arith;
-}
-
 pub loop-front-preserved : goal.loop-front-preserved
 loop-front-preserved c =
     let new = c.in_ok-push_joined.ensures in
@@ -23,5 +17,4 @@ pub returns : goal.returns
 returns c =
     let left = YieldsList-from_vec {s = c.into_iter-front-iterator.result} c.args.fronts.items (search rules) (search rules) in
     let whole = YieldsList-end left c.loop-front.yielded c.loop-front.front-iterator c.loop-front.yielded_by _ c.next.new.self c.in-None.is c.next.ensures.steps in
-    let all = sym (map-id c.loop-front.yielded) ∙ whole.0 in
-    rw all at c.loop-front.invariant
+    rw (sym (map-id c.loop-front.yielded) ∙ whole.0) at c.loop-front.invariant

@@ -4,46 +4,25 @@ use Rattle.filterset_texts.specs.Parts.{Fits}
 use Rattle.filterset_texts.proofs.Sequences.{begun_more, begun_none, fits_copied}
 use Rattle.filterset_texts.proofs.joining.push_joined.Goals as goal
 
-pub returns-in_default : goal.returns-in_default
-returns-in_default c =
-    let none : c.args.backs.now ≡ [] = sym (take_all 0 c.args.backs.now (omega (arith, c.in_default.ensures.cases))) in
-    rw none record {
-      matched = begun_none c.args.joined.now.items (Fits c.args.front.items);
-      count = omega arith;
-    }
-
-pub loop-back-init : goal.loop-back-init
-loop-back-init c = record {
-  matched = begun_none c.args.joined.now.items (Fits c.args.front.items);
-  count = omega arith;
-}
-
 pub loop-back-preserved : goal.loop-back-preserved
 loop-back-preserved c =
     let others = c.in-Some.others.now in
     let i = c.loop-back.back-index in
     let back = c.back-item.result in
     let one = c.append_copies-in-loop-back.new.sequence in
-    let old = c.args.joined.now.items in
     let at : get_or others i back ≡ back = search (rules, c.back-item.is) in
     let front = rw (c.new-sequence.ensures.items, c.deref.ensures.value) at c.in_ok-append_copies.ensures in
     let own = fits_copied c.append_copies.new.sequence.items one.items c.args.front.items back.items front (rw c.deref-in-loop-back.ensures.value at c.in_ok-append_copies-2.ensures) in
     rw (c.in_ok-push.ensures.items, take_more others i back c.loop-back-test.true, at) record {
-      matched = begun_more old c.loop-back.joined.items _ (Fits c.args.front.items) one back own c.loop-back.invariant.matched;
+      matched = begun_more c.args.joined.now.items c.loop-back.joined.items _ (Fits c.args.front.items) one back own c.loop-back.invariant.matched;
       count = omega (arith, length_push c.loop-back.joined.items one, c.loop-back.invariant.count);
     }
 
 pub returns-clause-matched : goal.returns-clause-matched
 returns-clause-matched c =
     let others = c.in-Some.others.now in
-    let last = c.in-Some.last.now in
-    let split = c.in-Some.ensures.cases.0 in
     let old = c.args.joined.now.items in
     let F = Fits c.args.front.items in
     let own = rw c.deref-2.ensures.value at c.in_ok-append_copies-3.ensures in
     let so_far = rw (take_all c.loop-back.back-index others c.loop-back-test.false) at c.loop-back.invariant.matched in
-    rw (c.in_ok-push-2.ensures.items, split) (begun_more old c.loop-back.joined.items others F c.append_copies-2.new.sequence last own so_far)
-
-pub returns-clause-count : goal.returns-clause-count
-returns-clause-count c =
-    omega (arith, ap length c.in_ok-push-2.ensures.items, length_push c.loop-back.joined.items c.append_copies-2.new.sequence, c.loop-back.invariant.count, c.in-Some.ensures.cases.1, c.loop-back-test.false)
+    rw (c.in_ok-push-2.ensures.items, c.in-Some.ensures.cases.0) (begun_more old c.loop-back.joined.items others F c.append_copies-2.new.sequence c.in-Some.last.now own so_far)

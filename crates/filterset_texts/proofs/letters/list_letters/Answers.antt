@@ -16,8 +16,7 @@ returns c =
     let row = row_of c.args.places.now in
     let added = c.in_ok-add_letters.ensures in
     let letters = c.add_letters.new.letters.items in
-    let cuts : c.deref.result.now ≡ cuts_of row = c.deref.ensures.value ∙ c.in_ok-cuts.ensures in
     record {
       each = added.kept.each (c.loop-byte.invariant.each (All-nil (λ (letter : Letter). IsAdmittedAt row letter.character letter.marks.items)));
-      all = all_from_cuts row letters (subst (All (λ number. InScalarRange number → HasLetterLike row letters number)) cuts added.has);
+      all = all_from_cuts row letters (subst (All (λ number. InScalarRange number → HasLetterLike row letters number)) (c.deref.ensures.value ∙ c.in_ok-cuts.ensures) added.has);
     }

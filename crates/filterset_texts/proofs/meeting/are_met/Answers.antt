@@ -1,4 +1,4 @@
-use Rattle.std.proofs.Common.{◌↔◌, ◌+◌, List, ap, subst, sym, ◌∙◌, length, take, drop, arith, refl, IsTrue, ◌++◌}
+use Rattle.std.proofs.Common.{◌↔◌, ◌+◌, List, ap, subst, sym, ◌∙◌, length, take, drop, arith, refl, IsTrue, ◌++◌, rules}
 use Rattle.std.proofs.lemmas.{Bool.false≢true, List.take_rest, List.take_all, List.length-drop}
 use Rattle.std.proofs.lemmas.List.Elements.{All-more, All-from_recursion, recursion_from_All}
 use Rattle.std.specs.{List.All, Prelude.◌-◌, declared.vec.Vec.Vec, declared.alloc.Global.Global}
@@ -8,20 +8,13 @@ use Rattle.filterset_texts.proofs.Ends.{all_place_count_more, leads_from, met_if
 use Rattle.filterset_texts.proofs.meeting.are_met.Goals as goal
 
 pub is_end_marked-fits_one-requires : goal.is_end_marked-fits_one-requires
-is_end_marked-fits_one-requires c =
-    let more = all_place_count_more c.args.conditions.now c.loop-condition.condition-index c.condition-item.result c.loop-condition-test.true c.condition-item.is in
-    let rest = ap length (take_rest c.args.marks.now c.loop-condition.first) in
-    omega (arith, more.0, more.1, c.loop-condition.invariant.first, ap place_count c.deref.ensures.value, rest, length-drop c.loop-condition.first c.args.marks.now)
+is_end_marked-fits_one-requires c = search (rules, arith, all_place_count_more, take_rest, length-drop)
 
 pub count_places-first-requires : goal.count_places-first-requires
-count_places-first-requires c =
-    let more = all_place_count_more c.args.conditions.now c.loop-condition.condition-index c.condition-item.result c.loop-condition-test.true c.condition-item.is in
-    omega (arith, more.0, more.1, c.loop-condition.invariant.first, ap place_count c.deref-in-loop-condition.ensures.value)
+count_places-first-requires c = search (rules, arith, all_place_count_more)
 
 pub overflow_add-first : goal.overflow_add-first
-overflow_add-first c =
-    let more = all_place_count_more c.args.conditions.now c.loop-condition.condition-index c.condition-item.result c.loop-condition-test.true c.condition-item.is in
-    omega (arith, more.0, more.1, c.loop-condition.invariant.first, ap place_count c.deref-in-loop-condition.ensures.value, c.count_places-first.ensures)
+overflow_add-first c = search (rules, arith, all_place_count_more)
 
 pub returns-then-fits_one-condition : goal.returns-then-fits_one-condition
 returns-then-fits_one-condition c = λ text leads.

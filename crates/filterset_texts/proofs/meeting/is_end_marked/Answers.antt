@@ -1,4 +1,4 @@
-use Rattle.std.proofs.Common.{◌≡◌, ◌+◌, ap, subst, sym, ◌∙◌, length, take, arith, refl}
+use Rattle.std.proofs.Common.{◌≡◌, ◌+◌, ap, subst, sym, ◌∙◌, length, take, arith, refl, rules}
 use Rattle.std.proofs.lemmas.{Bool.false≢true, List.Elements.All-more}
 use Rattle.std.specs.declared.{vec.Vec.Vec, alloc.Global.Global}
 use Rattle.filterset_texts.specs.{declared.part.Part.Part, Parts.Fits, Parts.place_count}
@@ -6,22 +6,13 @@ use Rattle.filterset_texts.proofs.{Ends.place_count_more, Ends.end_marked, Lists
 use Rattle.filterset_texts.proofs.meeting.is_end_marked.Goals as goal
 
 pub overflow_add-last : goal.overflow_add-last
-overflow_add-last c =
-    let more = place_count_more c.args.sequences.now c.loop-sequence.sequence-index c.sequence-item.result c.loop-sequence-test.true c.sequence-item.is in
-    let count : c.len.result ≡ length c.sequence-item.result.items = c.len.ensures ∙ c.sequence-item.result.ok.0 in
-    omega (arith, more.0, more.1, count)
+overflow_add-last c = search (rules, arith, place_count_more)
 
 pub bounds-marks-last : goal.bounds-marks-last
-bounds-marks-last c =
-    let more = place_count_more c.args.sequences.now c.loop-sequence.sequence-index c.sequence-item.result c.loop-sequence-test.true c.sequence-item.is in
-    let count : c.len.result ≡ length c.sequence-item.result.items = c.len.ensures ∙ c.sequence-item.result.ok.0 in
-    omega (arith, more.0, more.1, count)
+bounds-marks-last c = search (rules, arith, place_count_more)
 
 pub overflow_add-first : goal.overflow_add-first
-overflow_add-first c =
-    let more = place_count_more c.args.sequences.now c.loop-sequence.sequence-index c.sequence-item.result c.loop-sequence-test.true c.sequence-item.is in
-    let count : c.len.result ≡ length c.sequence-item.result.items = c.len.ensures ∙ c.sequence-item.result.ok.0 in
-    omega (arith, more.0, more.1, count)
+overflow_add-first c = search (rules, arith, place_count_more)
 
 pub returns-then-marks-last : goal.returns-then-marks-last
 returns-then-marks-last c = λ more text leads. let t = c.if-marks-last.true in

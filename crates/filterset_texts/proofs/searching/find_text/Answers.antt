@@ -19,8 +19,7 @@ returns-then-index-len-clause-found c =
     let states = c.loop-count.states.list.items in
     let searched = c.loop-count.invariant.searched in
     let are : AreLetters row letters = subst (λ (p : List (Option (Bor Part))). AreLetters (row_of p) letters) c.deref.ensures.value c.in_ok-letters.ensures in
-    let count : c.loop-count.count ≡ length states = c.if-index-len.true ∙ c.len.ensures ∙ c.loop-count.states.list.ok.0 in
-    let whole : take c.loop-count.count states ≡ states = take_all c.loop-count.count states (omega (arith, count)) in
+    let whole : take c.loop-count.count states ≡ states = take_all c.loop-count.count states (omega (arith, c.if-index-len.true ∙ c.len.ensures ∙ c.loop-count.states.list.ok.0)) in
     none_meets row c.args.conditions.now letters states are
     (subst (All (IsExplored row c.args.conditions.now letters states)) whole searched.explored) searched.are.start
 
@@ -38,8 +37,7 @@ returns-then-are_met-clause-within_sets c =
     let bound = few_states row c.loop-count.states.list.items c.loop-count.invariant.searched.are in
     let size : length row ≡ all_place_count c.args.conditions.now = ap length c.in_ok-places.ensures ∙ length-places_of c.args.conditions.now in
     let most : length c.loop-count.states.list.items ≤ 2 ^ all_place_count c.args.conditions.now = subst (λ n. length c.loop-count.states.list.items ≤ 2 ^ n) size bound in
-    let len : c.len.result ≡ length c.loop-count.states.list.items = c.len.ensures ∙ c.loop-count.states.list.ok.0 in
-    let other : c.loop-count.count ≢ length c.loop-count.states.list.items = λ same. c.if-index-len.false (same ∙ sym len) in
+    let other : c.loop-count.count ≢ length c.loop-count.states.list.items = λ same. c.if-index-len.false (same ∙ sym (c.len.ensures ∙ c.loop-count.states.list.ok.0)) in
     omega (arith, most, c.loop-count.invariant.searched.within, other)
 
 pub are_met-requires : goal.are_met-requires
@@ -49,8 +47,7 @@ are_met-requires c =
     let count = c.loop-count.count in
     let here = c.index-state.result.now in
     let searched = c.loop-count.invariant.searched in
-    let len : c.len.result ≡ length states = c.len.ensures ∙ c.loop-count.states.list.ok.0 in
-    let other : count ≢ length states = λ same. c.if-index-len.false (same ∙ sym len) in
+    let other : count ≢ length states = λ same. c.if-index-len.false (same ∙ sym (c.len.ensures ∙ c.loop-count.states.list.ok.0)) in
     let short : count < length states = omega (arith, other, searched.within) in
     let leads = subst (λ (s : State). LeadsTo row (chars (string_bytes s.text)) s.marks.items) (sym c.index-state.ensures) (searched.are.each count here short) in
     ap length c.deref-in-loop-count.ensures.value ∙ leads.same_length ∙ ap length c.in_ok-places.ensures ∙ length-places_of c.args.conditions.now
@@ -63,8 +60,7 @@ returns-then-are_met-clause-found c =
     let here = c.index-state.result.now in
     let text = chars (string_bytes here.text) in
     let searched = c.loop-count.invariant.searched in
-    let len : c.len.result ≡ length states = c.len.ensures ∙ c.loop-count.states.list.ok.0 in
-    let other : count ≢ length states = λ same. c.if-index-len.false (same ∙ sym len) in
+    let other : count ≢ length states = λ same. c.if-index-len.false (same ∙ sym (c.len.ensures ∙ c.loop-count.states.list.ok.0)) in
     let short : count < length states = omega (arith, other, searched.within) in
     let led = subst (λ (s : State). LeadsTo (row_of c.in_ok-places.places.items) (chars (string_bytes s.text)) s.marks.items) (sym c.index-state.ensures) (searched.are.each count here short) in
     let leads = subst (λ (r : List (Option Part)). LeadsTo r text here.marks.items) c.in_ok-places.ensures led in
@@ -83,8 +79,7 @@ loop-count-preserved c =
     let states : List State = c.loop-count.states.list.items in
     let new : List State = c.add_following.new.states.list.items in
     let count = c.loop-count.count in
-    let len : c.len.result ≡ length states = c.len.ensures ∙ c.loop-count.states.list.ok.0 in
-    let other : count ≢ length states = λ same. c.if-index-len.false (same ∙ sym len) in
+    let other : count ≢ length states = λ same. c.if-index-len.false (same ∙ sym (c.len.ensures ∙ c.loop-count.states.list.ok.0)) in
     let searched : IsSearched row conditions letters states count = c.loop-count.invariant.searched in
     let short : count < length states = omega (arith, other, searched.within) in
     let rows : row_of c.deref-in-loop-count-2.result.now ≡ row = ap row_of c.deref-in-loop-count-2.ensures.value in
@@ -122,15 +117,13 @@ returns-clause-found c =
     let states : List State = c.loop-count.states.list.items in
     let count = c.loop-count.count in
     let searched : IsSearched row conditions letters states count = c.loop-count.invariant.searched in
-    let bound = few_states row states searched.are in
     let size : length row ≡ all_place_count conditions = ap length c.in_ok-places.ensures ∙ length-places_of conditions in
-    let most : length states ≤ 2 ^ all_place_count conditions = subst (λ n. length states ≤ 2 ^ n) size bound in
+    let most : length states ≤ 2 ^ all_place_count conditions = subst (λ n. length states ≤ 2 ^ n) size (few_states row states searched.are) in
     let are : AreLetters row letters = subst (λ (p : List (Option (Bor Part))). AreLetters (row_of p) letters) c.deref.ensures.value c.in_ok-letters.ensures in
     let len : c.len-2.result ≡ length states = c.len-2.ensures ∙ c.loop-count.states.list.ok.0 in
     elim c.if-len-limit.branch [
       | then-len-limit w ↦
-          let all : length states ≤ count = omega (arith, len, w.if-len-limit.true, c.loop-count-test.false) in
-          let whole : take count states ≡ states = take_all count states all in
+          let whole : take count states ≡ states = take_all count states (omega (arith, len, w.if-len-limit.true, c.loop-count-test.false)) in
           subst (IsRight conditions c.args.limit) (sym w.found-is)
           (none_meets row conditions letters states are (subst (All (IsExplored row conditions letters states)) whole searched.explored) searched.are.start)
       | else-len-limit w ↦
@@ -138,15 +131,8 @@ returns-clause-found c =
           let apart : ExceedsLimit conditions c.args.limit =
           apart_states conditions states c.args.limit (subst (λ (r : List (Option Part)). AreStates r states) c.in_ok-places.ensures searched.are)
           (omega (arith, searched.within, c.loop-count-test.false, other)) in
-          let less : c.args.limit < 2 ^ all_place_count conditions = omega (arith, most, searched.within, c.loop-count-test.false, other) in
-          subst (IsRight conditions c.args.limit) (sym w.found-is) (less, apart)
+          subst (IsRight conditions c.args.limit) (sym w.found-is) (omega (arith, most, searched.within, c.loop-count-test.false, other), apart)
     ]
-
-pub returns-then-index-len-clause-some : goal.returns-then-index-len-clause-some
-returns-then-index-len-clause-some c = λ positive.
-    let (k, state, short, is, leads) = c.loop-count.invariant.searched.are.start in
-    let len : c.len.result ≡ length c.loop-count.states.list.items = c.len.ensures ∙ c.loop-count.states.list.ok.0 in
-    omega (arith, short, len, c.if-index-len.true)
 
 pub returns-then-index-len-clause-all : goal.returns-then-index-len-clause-all
 returns-then-index-len-clause-all c = λ nothing.
@@ -158,8 +144,7 @@ returns-then-index-len-clause-all c = λ nothing.
     let searched : IsSearched row conditions letters states count = c.loop-count.invariant.searched in
     let are : AreLetters row letters = subst (λ (p : List (Option (Bor Part))). AreLetters (row_of p) letters) c.deref.ensures.value c.in_ok-letters.ensures in
     let len : count ≡ length states = c.if-index-len.true ∙ c.len.ensures ∙ c.loop-count.states.list.ok.0 in
-    let whole : take count states ≡ states = take_all count states (omega (arith, len)) in
-    let explored = subst (All (IsExplored row conditions letters states)) whole searched.explored in
+    let explored = subst (All (IsExplored row conditions letters states)) (take_all count states (omega (arith, len))) searched.explored in
     all_sets conditions states count (subst (λ (r : List (Option Part)). AreStates r states) c.in_ok-places.ensures searched.are) (sym len)
     (λ text utf8. subst (λ (r : List (Option Part)). Any (λ (s : State). LeadsTo r (chars text) s.marks.items) states) c.in_ok-places.ensures
     (all_reached row conditions letters states are explored searched.are.start text utf8))
@@ -173,13 +158,11 @@ returns-clause-all c = λ nothing.
     let count = c.loop-count.count in
     let searched : IsSearched row conditions letters states count = c.loop-count.invariant.searched in
     let are : AreLetters row letters = subst (λ (p : List (Option (Bor Part))). AreLetters (row_of p) letters) c.deref.ensures.value c.in_ok-letters.ensures in
-    let len : c.len-2.result ≡ length states = c.len-2.ensures ∙ c.loop-count.states.list.ok.0 in
     let at_limit : length states ≡ c.args.limit = elim c.if-len-limit.branch [
-      | then-len-limit w ↦ sym len ∙ w.if-len-limit.true
+      | then-len-limit w ↦ sym (c.len-2.ensures ∙ c.loop-count.states.list.ok.0) ∙ w.if-len-limit.true
       | else-len-limit w ↦ absurd (let clash : Stopped ≡ Nothing = sym w.found-is ∙ nothing in cc)
     ] in
-    let whole : take count states ≡ states = take_all count states (omega (arith, at_limit, c.loop-count-test.false)) in
-    let explored = subst (All (IsExplored row conditions letters states)) whole searched.explored in
+    let explored = subst (All (IsExplored row conditions letters states)) (take_all count states (omega (arith, at_limit, c.loop-count-test.false))) searched.explored in
     all_sets conditions states c.args.limit (subst (λ (r : List (Option Part)). AreStates r states) c.in_ok-places.ensures searched.are) at_limit
     (λ text utf8. subst (λ (r : List (Option Part)). Any (λ (s : State). LeadsTo r (chars text) s.marks.items) states) c.in_ok-places.ensures
     (all_reached row conditions letters states are explored searched.are.start text utf8))

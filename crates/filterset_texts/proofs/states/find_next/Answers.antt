@@ -39,9 +39,8 @@ returns-then-contains-clause-known c = λ other.
     let states = c.args.states.now in
     let state = c.index-states-index.result in
     let marks = c.in_ok-marks.marks in
-    let same : get_or states c.args.index other ≡ state = get_or_default states c.args.index other state c.requires.index ∙ sym c.index-states-index.is in
     let on : LeadsOn row c.args.letter.now state.marks.items marks.items = λ text ch leads admits.
     c.in_ok-marks.ensures text ch (subst (LeadsTo row text) (sym c.deref.ensures.value) leads) (subst (IsAdmittedAt row ch) (sym c.deref-2.ensures.value) admits) in
-    subst (λ (s : State). HasNext row states s.marks.items c.args.letter.now) (sym same)
+    subst (λ (s : State). HasNext row states s.marks.items c.args.letter.now) (sym (get_or_default states c.args.index other state c.requires.index ∙ sym c.index-states-index.is))
     (any_weaker (λ (s : State). s.marks.items ≡ marks.items) (λ (s : State). LeadsOn row c.args.letter.now state.marks.items s.marks.items) states
     (λ s like. subst (LeadsOn row c.args.letter.now state.marks.items) (sym like) on) (was_seen states c.args.seen.now marks c.requires.seen (sym c.if-contains.ensures)))

@@ -5,9 +5,6 @@ use Rattle.filterset_texts.specs.Parts.{Fits}
 use Rattle.filterset_texts.proofs.{Cuts.in_turn_nothing, Spelling.spelled_more}
 use Rattle.filterset_texts.proofs.texts.append_text.Goals as goal
 
-pub loop-c-init : goal.loop-c-init
-loop-c-init c = in_turn_nothing (Fits c.args.sequence.now.items)
-
 pub loop-c-preserved : goal.loop-c-preserved
 loop-c-preserved c =
     rw c.in_ok-push.ensures.items
@@ -16,5 +13,4 @@ loop-c-preserved c =
 pub returns : goal.returns
 returns c =
     let whole = YieldsList-end (YieldsList-from_chars c.args.text.now c.utf8.text cc) c.loop-c.yielded _ c.loop-c.yielded_by _ _ c.in-None.is c.next.ensures.steps in
-    let all : c.loop-c.yielded ≡ chars c.args.text.now = sym (map-id c.loop-c.yielded) ∙ whole.0 in
-    rw all at c.loop-c.invariant
+    rw (sym (map-id c.loop-c.yielded) ∙ whole.0) at c.loop-c.invariant

@@ -1,4 +1,4 @@
-use Rattle.std.proofs.Common.{arith, ◌≡◌, ◌+◌, ◌≤◌, ◌∷◌, [], IfOk, drop, length, subst, sym}
+use Rattle.std.proofs.Common.{arith, ◌≡◌, ◌+◌, ◌≤◌, ◌∷◌, [], IfOk, drop, length, subst, sym, rules}
 use Rattle.std.specs.declared.{vec.Vec.Vec, alloc.Global.Global}
 use Rattle.std.proofs.{lemmas.List.drop_all, lemmas.List.length-append, lemmas.Result.IfOk-weaker, Math.Nat.le-max_left}
 use Rattle.filterset_texts.specs.{declared.part.Part.Part, Cuts.HoldTogether}
@@ -15,11 +15,10 @@ expand_branches-loop-branch-preserved t c =
     let branches = c.args.branches.now in
     let i = c.loop-branch.branch-index in
     let x = c.branch-item.result in
-    let here : drop i branches ≡ x ∷ drop (i + 1) branches = drop_item branches i x c.loop-branch-test.true c.branch-item.is in
     let old = c.loop-branch.sequences.items in
     let more = c.in_ok-more.more.items in
     let items : c.deref.result.now ≡ x.tokens.items = c.deref.ensures.value in
-    let so_far = rw here at c.loop-branch.invariant in
+    let so_far = rw (drop_item branches i x c.loop-branch-test.true c.branch-item.is) at c.loop-branch.invariant in
     rw c.in_ok-append.ensures.items record {
       matched = group_more old more (tokens_of x.tokens.items) (branches_of (drop (i + 1) branches)) (MatchesSome (branches_of branches)) (rw items at c.in_ok-more.ensures.matched) so_far.matched;
       count = omega (arith, length-append old more, rw items at c.in_ok-more.ensures.count, so_far.count);
@@ -27,20 +26,11 @@ expand_branches-loop-branch-preserved t c =
 
 pub expand_token-returns-in-Alternates-clause-matched :
     goal.expand_token-returns-in-Alternates-clause-matched
-expand_token-returns-in-Alternates-clause-matched t c =
-    let made = c.expand_branches.result in
-    let is = token_of_group c.args.token.now c.in-Alternates.branches c.in-Alternates.is in
-    subst (λ (x : Token). IfOk made (λ (sequences : Vec (Vec Part Global) Global). HoldTogether (FitsSome sequences.items) (MatchesToken x))) (sym is)
-    (rw c.deref.ensures.value at c.expand_branches.ensures.matched)
+expand_token-returns-in-Alternates-clause-matched t c = search (rules, arith, token_of_group)
 
 pub expand_token-returns-in-Alternates-clause-count :
     goal.expand_token-returns-in-Alternates-clause-count
-expand_token-returns-in-Alternates-clause-count t c =
-    let made = c.expand_branches.result in
-    let is = token_of_group c.args.token.now c.in-Alternates.branches c.in-Alternates.is in
-    let count = branches_sequence_count (branches_of c.in-Alternates.branches.items) in
-    subst (λ (x : Token). IfOk made (λ (sequences : Vec (Vec Part Global) Global). length sequences.items ≤ token_sequence_count x)) (sym is)
-    (IfOk-weaker made (λ (sequences : Vec (Vec Part Global) Global). length sequences.items ≤ count) _ (λ sequences few. omega (arith, few, le-max_left count 1)) (rw c.deref.ensures.value at c.expand_branches.ensures.count))
+expand_token-returns-in-Alternates-clause-count t c = search (rules, arith, token_of_group, IfOk-weaker, le-max_left)
 
 pub expand_tokens-loop-token-init : goal.expand_tokens-loop-token-init
 expand_tokens-loop-token-init t c =
@@ -54,12 +44,11 @@ expand_tokens-loop-token-preserved t c =
     let tokens = c.args.tokens.now in
     let i = c.loop-token.token-index in
     let x = c.token-item.result in
-    let here : drop i tokens ≡ x ∷ drop (i + 1) tokens = drop_item tokens i x c.loop-token-test.true c.token-item.is in
     let rest = tokens_of (drop (i + 1) tokens) in
     let fronts = c.loop-token.sequences.items in
     let backs = c.in_ok-backs.backs.items in
     let joined = c.in_ok-sequences-2.sequences.items in
-    let so_far = rw here at c.loop-token.invariant in
+    let so_far = rw (drop_item tokens i x c.loop-token-test.true c.token-item.is) at c.loop-token.invariant in
     let new = rw c.deref.ensures.value at c.in_ok-sequences-2.ensures in
     record {
       matched = row_more fronts backs joined (token_of x) rest (Matches (tokens_of tokens)) c.in_ok-backs.ensures.matched new.matched so_far.matched;
@@ -69,5 +58,4 @@ expand_tokens-loop-token-preserved t c =
 pub expand_tokens-returns-clause-matched : goal.expand_tokens-returns-clause-matched
 expand_tokens-returns-clause-matched t c =
     let tokens = c.args.tokens.now in
-    let none : drop c.loop-token.token-index tokens ≡ [] = drop_all c.loop-token.token-index tokens c.loop-token-test.false in
-    row_done c.loop-token.sequences.items (Matches (tokens_of tokens)) (rw none at c.loop-token.invariant.matched)
+    row_done c.loop-token.sequences.items (Matches (tokens_of tokens)) (rw (drop_all c.loop-token.token-index tokens c.loop-token-test.false) at c.loop-token.invariant.matched)
