@@ -47,13 +47,12 @@ pub Takes-push : (Applies : AskedOverride → Option Bool → Type 0) (key : Tex
     → Takes Applies key before taken → Applies o v → Takes Applies key (before ++ o ∷ []) (if sets o.settings.now key then kleene Disjunction taken v else taken)
 Takes-push Applies key [] o taken v none applies = (v, Some false, applies, refl, one_takes (sets o.settings.now key) taken v none)
 Takes-push Applies key (p ∷ before) o taken v (first, others, is, rest, whole) applies =
-    let s = sets p.settings.now key in
     let s' = sets o.settings.now key in (
       first,
       (if s' then kleene Disjunction others v else others),
       is,
       Takes-push Applies key before o others v rest applies,
-      ap (λ t. if s' then kleene Disjunction t v else t) whole ∙ more_take s s' first others v,
+      ap (λ t. if s' then kleene Disjunction t v else t) whole ∙ more_take (sets p.settings.now key) s' first others v,
     )
 
 -- one more that does not take it

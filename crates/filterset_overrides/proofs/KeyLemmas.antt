@@ -15,8 +15,7 @@ any_mapped f key (x ∷ xs) = let more = any_mapped f key xs in cc
 pub found : (key : Text) (texts : List Text) → list_any (λ t. bytes_eq t key) texts ≡ true → Contains texts key
 found key texts is_so =
     let (k, t, lt, at, same) = Any-from_list_any (λ t. bytes_eq t key) texts is_so in
-    let is : t ≡ key = (bytes_eq-Decides t key).0 same in
-    (k, lt, subst (λ u. get_or texts k u ≡ u) is at)
+    (k, lt, subst (λ u. get_or texts k u ≡ u) ((bytes_eq-Decides t key).0 same) at)
 
 pub found_back : (key : Text) (texts : List Text) → Contains texts key → list_any (λ t. bytes_eq t key) texts ≡ true
 found_back key texts (k, lt, at) =

@@ -13,14 +13,11 @@ pub loop-binary-preserved : goal.loop-binary-preserved
 loop-binary-preserved c packages compiled =
     let binaries = c.args.binaries.now in
     let i = c.loop-binary.binary-index in
-    let binary = c.binary-item.result in
     let default = default_of c.args.context.now in
     let is_filter : IsFilterOf c.args.asked.now c.unwrap_or-filter.result.now = filter_is c.args.asked.now.filter _ c.unwrap_or-filter.result (search rules) c.unwrap_or-filter.ensures in
     subst (λ (all : List Test). AllZip (λ test. AppliesAs packages default test c.args.asked.now) all c.push_applications.new.applications.items)
-    (sym (flat_more tests_of_one binaries i binary c.loop-binary-test.true (sym c.binary-item.is)))
+    (sym (flat_more tests_of_one binaries i c.binary-item.result c.loop-binary-test.true (sym c.binary-item.is)))
     (c.in_ok-push_applications.ensures packages default (tests_of (take i binaries)) compiled (c.unwrap_or-filter.result.now, is_filter, c.in_ok-flat.ensures.flat) (c.loop-binary.invariant packages compiled))
 
 pub returns : goal.returns
-returns c packages compiled =
-    let all = c.loop-binary.invariant packages compiled in
-    rw (take_all c.loop-binary.binary-index c.args.binaries.now c.loop-binary-test.false) at all
+returns c packages compiled = rw (take_all c.loop-binary.binary-index c.args.binaries.now c.loop-binary-test.false) at (c.loop-binary.invariant packages compiled)

@@ -8,8 +8,7 @@ use Rattle.filterset_overrides.proofs.applying.push_applications.Goals as goal
 
 pub returns : goal.returns
 returns c packages default tests compiled laid before =
-    let all = c.loop-test.invariant packages default tests compiled laid before in
-    rw (take_all c.loop-test.test-index _ c.loop-test-test.false) at all
+    rw (take_all c.loop-test.test-index _ c.loop-test-test.false) at (c.loop-test.invariant packages default tests compiled laid before)
 
 pub loop-test-preserved : goal.loop-test-preserved
 loop-test-preserved c packages default tests compiled laid before =

@@ -11,15 +11,13 @@ pub returns : goal.returns
 returns c packages compiled =
     let default = default_of c.args.context.now in
     let tests = tests_of c.args.binaries.now in
-    let so_far = c.loop-binary.invariant in
-    let counted = rw (take_all c.loop-binary.binary-index c.args.binaries.now c.loop-binary-test.false) at so_far in
+    let counted = rw (take_all c.loop-binary.binary-index c.args.binaries.now c.loop-binary-test.false) at c.loop-binary.invariant in
     let applied = c.in_ok-applied.ensures.applied packages compiled in
     let asked = c.in_ok-applied.ensures.asked in
     let rows = rw c.deref.ensures.value at (c.in_ok-rows.ensures packages default tests) in
-    let given = rw c.deref-3.ensures.value at (c.in_ok-columns.ensures.given packages default tests) in
     let keys = c.in_ok-columns.ensures.keys ∙ ap (map (λ k. k.now)) c.deref-2.ensures.value in (
       subst (λ (os : List AskedOverride). EachAfter (IsRow packages default tests) [] os c.in_ok-rows.rows.items) asked (rows applied),
       subst (λ (texts : List Text). AreDistinctOf (all_settings c.args.overrides.now []) texts) (sym keys) c.in_ok-keys.ensures,
       subst (λ (os : List AskedOverride). All (λ (s : SettingColumn). EachAfter (IsGiven packages default tests s.key.now) [] os s.given.items) c.in_ok-columns.columns.items) asked
-          (given (sym counted) applied),
+          ((rw c.deref-3.ensures.value at (c.in_ok-columns.ensures.given packages default tests)) (sym counted) applied),
     )

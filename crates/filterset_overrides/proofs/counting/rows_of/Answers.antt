@@ -15,11 +15,10 @@ loop-at-preserved c packages default tests applied =
     let f = λ (a : AppliedOverride). a.asked in
     let so_far = overrides_of (take i all) in
     let answers = one.answers.items in
-    let sure : c.count_answers.result.sure ≡ count_by (λ a. unwrap_or a false) answers = rw c.as_slice.ensures.value at c.count_answers.ensures.sure in
     let unknown : c.count_answers.result.unknown ≡ count_by is_none answers = rw c.as_slice.ensures.value at c.count_answers.ensures.unknown in
     let row : OverrideRow = record { at = i; path = one.asked.path; tests = c.count_answers.result; picks_all = one.picks_all } in
     let is = subst (IsApplied packages default tests) (sym c.index-applied-at.is) (applied i one c.loop-at-test.true) in
     let long : i ≡ length so_far = sym (length-map (take i all) f ∙ length-take-le i all (omega (arith, c.loop-at-test.true))) in
     let each = EachAfter-push (IsRow packages default tests) [] so_far c.loop-at.rows.items one.asked row
-    (c.loop-at.invariant packages default tests applied) (long, refl, (answers, is.0, sure, unknown), is.1) in
+    (c.loop-at.invariant packages default tests applied) (long, refl, (answers, is.0, rw c.as_slice.ensures.value at c.count_answers.ensures.sure, unknown), is.1) in
     rw c.in_ok-push.ensures.items (subst (λ (os : List AskedOverride). EachAfter (IsRow packages default tests) [] os (c.loop-at.rows.items ++ row ∷ [])) (sym (map_more f all i one c.loop-at-test.true (sym c.index-applied-at.is))) each)

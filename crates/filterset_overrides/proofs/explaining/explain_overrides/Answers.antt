@@ -11,7 +11,6 @@ pub returns : goal.returns
 returns c packages compiled =
     let default = default_of c.args.context.now in
     let test : Test = (c.args.query.now.binary_query, c.args.query.now.test_name.now) in
-    let overrides = c.args.overrides.now in
     let profiles = c.args.profiles.now in
     let asked = c.in_ok-explained.ensures.asked in
     let explained = c.in_ok-explained.ensures.explained packages compiled in
@@ -20,7 +19,7 @@ returns c packages compiled =
     let givers = c.in_ok-settings.ensures.givers packages default test rows in (
       asked,
       explained,
-      subst (λ (texts : List Text). AreDistinctOf (all_settings overrides profiles) texts) (sym keys) c.in_ok-keys.ensures,
+      subst (λ (texts : List Text). AreDistinctOf (all_settings c.args.overrides.now profiles) texts) (sym keys) c.in_ok-keys.ensures,
       subst (λ (os : List AskedOverride). All (λ (s : ExplainedSetting). IsGiver (DoesApply packages default test) s.key.now os profiles s.giver) c.in_ok-settings.settings.items)
           (ap asked_of c.as_slice-2.ensures.value ∙ asked) givers,
     )

@@ -19,8 +19,7 @@ loop-asked-preserved c =
 
 pub loop-profile-init : goal.loop-profile-init
 loop-profile-init c =
-    let keys = c.loop-asked.invariant in
-    rw (append-nil (override_settings c.args.overrides.now)) (rw (take_all c.loop-asked.asked-index c.args.overrides.now c.loop-asked-test.false) at keys)
+    rw (append-nil (override_settings c.args.overrides.now)) (rw (take_all c.loop-asked.asked-index c.args.overrides.now c.loop-asked-test.false) at c.loop-asked.invariant)
 
 pub loop-profile-preserved : goal.loop-profile-preserved
 loop-profile-preserved c =
@@ -34,6 +33,4 @@ loop-profile-preserved c =
     (c.in_ok-push_keys-2.ensures (all ++ so_far) c.loop-profile.invariant)
 
 pub returns : goal.returns
-returns c =
-    let keys = c.loop-profile.invariant in
-    rw (take_all c.loop-profile.profile-index c.args.profiles.now c.loop-profile-test.false) at keys
+returns c = rw (take_all c.loop-profile.profile-index c.args.profiles.now c.loop-profile-test.false) at c.loop-profile.invariant

@@ -7,9 +7,7 @@ use Rattle.filterset_overrides.proofs.ListLemmas.{behind, map_append, map_more}
 use Rattle.filterset_overrides.proofs.keys.push_keys.Goals as goal
 
 pub returns : goal.returns
-returns c all before =
-    let keys = c.loop-setting.invariant all before in
-    rw (take_all c.loop-setting.setting-index c.args.settings.now c.loop-setting-test.false) at keys
+returns c all before = rw (take_all c.loop-setting.setting-index c.args.settings.now c.loop-setting-test.false) at (c.loop-setting.invariant all before)
 
 pub loop-setting-preserved-then-any : goal.loop-setting-preserved-then-any
 loop-setting-preserved-then-any c all before =
@@ -38,6 +36,5 @@ loop-setting-preserved c all before =
     let is = any_from_yields_List (λ (k : Bor (List ℕ)). bytes_eq k.now key.now) _ _ c.any.result c.any.ensures.ran (YieldsList-from_slice c.deref.result.now cc) (λ x b q k. search (rules, tests)) in
     let same = ap (list_any (λ (k : Bor (List ℕ)). bytes_eq k.now key.now)) (sym c.deref.ensures.value) ∙ sym is in
     let whole = behind all so_far (key.now ∷ []) (map string_bytes (take (i + 1) items)) (map_more string_bytes items i one c.loop-setting-test.true (sym c.setting-item.is) ∙ ap (λ (k : List ℕ). so_far ++ k ∷ []) (sym c.as_str-key.ensures.value)) in
-    let texts = ap (map f) c.in_ok-push.ensures.items ∙ map_append f keys (key ∷ []) in
-    rw texts (subst (λ (ts : List Text). AreDistinctOf ts (map f keys ++ key.now ∷ [])) whole
+    rw (ap (map f) c.in_ok-push.ensures.items ∙ map_append f keys (key ∷ [])) (subst (λ (ts : List Text). AreDistinctOf ts (map f keys ++ key.now ∷ [])) whole
     (key_pushed f key.now keys (all ++ so_far) (c.loop-setting.invariant all before) (same ∙ c.if-any.false)))

@@ -19,7 +19,6 @@ loop-asked-preserved c =
     let answers = c.in_ok-verdicts_of.field-0 in
     let picks_all = c.picks_all.result in
     let made : AppliedOverride = record { asked = o; answers = answers; picks_all = picks_all } in
-    let answers_are = rw c.deref.ensures.value at c.in_ok-verdicts_of.ensures in
     let picks : picks_all ≡ (is_some o.filter && (not (length applications == 0) && list_all is_picked applications)) = rw c.deref-in-loop-asked.ensures.value at c.picks_all.ensures in
     record {
       asked = ap overrides_of c.in_ok-push.ensures.items ∙ pushed_map (λ (a : AppliedOverride). a.asked) c.loop-asked.all.items made all i o c.loop-asked-test.true (sym c.asked-item.is) c.loop-asked.invariant.asked refl;
@@ -27,7 +26,7 @@ loop-asked-preserved c =
           let are = c.in_ok-applications.ensures packages (subst (IsCompiledOf packages) (sym c.asked-item.is) (compiled i o c.loop-asked-test.true)) in
           let mapped = AllZip-mapped (λ test. AppliesAs packages default test o) (λ test. DoesApply packages default test o) verdict (λ test a is. (a, is, refl)) tests applications are in
           rw c.in_ok-push.ensures.items (All-push (IsApplied packages default tests) c.loop-asked.all.items made (c.loop-asked.invariant.applied packages compiled) (
-            subst (λ (vs : List (Option Bool)). AllZip (λ test. DoesApply packages default test o) tests vs) (sym answers_are) mapped,
+            subst (λ (vs : List (Option Bool)). AllZip (λ test. DoesApply packages default test o) tests vs) (sym (rw c.deref.ensures.value at c.in_ok-verdicts_of.ensures)) mapped,
             (
               applications,
               are,

@@ -22,8 +22,7 @@ returns c packages default tests before applied are =
     let more_is = rw (c.as_slice-3.ensures.value, c.as_slice-4.ensures.value) at c.in_ok-taken.ensures in
     let gives = subst (λ (gs : List (Option Bool)). AllZip (λ test. Gives (DoesApply packages default test) key before o) tests gs) (sym given_is)
     (given_tests packages default tests key before o answers taken applied.0 are) in
-    let sure : c.count_answers.result.sure ≡ count_by (λ a. unwrap_or a false) given = rw c.as_slice-5.ensures.value at c.count_answers.ensures.sure in
     let unknown : c.count_answers.result.unknown ≡ count_by is_none given = rw c.as_slice-5.ensures.value at c.count_answers.ensures.unknown in (
-      (is_set, (given, gives, sure, unknown)),
+      (is_set, (given, gives, rw c.as_slice-5.ensures.value at c.count_answers.ensures.sure, unknown)),
       subst (λ (ts : List (Option Bool)). AreTaken packages default tests key (before ++ o ∷ []) ts) (sym more_is) (more_taken packages default tests key before o answers taken applied.0 are is_set),
     )

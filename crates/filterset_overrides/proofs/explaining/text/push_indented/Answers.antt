@@ -15,5 +15,4 @@ pub returns : goal.returns
 returns c =
     let lines_left = YieldsList-from_lines {s = c.into_iter-line-iterator.result} c.args.text.now (cc) in
     let whole = YieldsList-end lines_left c.loop-line.yielded _ c.loop-line.yielded_by _ _ c.in-None.is c.next.ensures.steps in
-    let written = c.loop-line.invariant in
-    rw whole.0 at written
+    rw whole.0 at c.loop-line.invariant

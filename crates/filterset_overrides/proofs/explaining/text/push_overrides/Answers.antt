@@ -5,15 +5,9 @@ use Rattle.filterset_overrides.proofs.explaining.text.push_overrides.Goals as go
 
 pub loop-at-preserved : goal.loop-at-preserved
 loop-at-preserved c =
-    let all = c.args.all.now in
-    let i = c.loop-at.at in
-    let one = c.index-all-at.result in
-    let line = rw c.application_text-application.ensures at c.in_ok-writeln.ensures.bytes in
     let reason = rw c.reason_at.ensures at c.in_ok-push_indented.ensures in
-    rw (lines_more all c.args.reasons.now i one c.loop-at-test.true (sym c.index-all-at.is))
-    (three_more _ _ _ _ _ _ _ c.loop-at.invariant line reason)
+    rw (lines_more c.args.all.now c.args.reasons.now c.loop-at.at c.index-all-at.result c.loop-at-test.true (sym c.index-all-at.is))
+    (three_more _ _ _ _ _ _ _ c.loop-at.invariant (rw c.application_text-application.ensures at c.in_ok-writeln.ensures.bytes) reason)
 
 pub returns : goal.returns
-returns c =
-    let written = c.loop-at.invariant in
-    rw (take_all c.loop-at.at c.args.all.now (omega (arith, c.loop-at-test.false))) at written
+returns c = rw (take_all c.loop-at.at c.args.all.now (omega (arith, c.loop-at-test.false))) at c.loop-at.invariant
