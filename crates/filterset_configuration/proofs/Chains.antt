@@ -105,8 +105,7 @@ module _ (ps : List Profile) where
   -- where there is a lineage, a fault is out of memory
   pub no_fault : (name : Text) (chain : List Profile) (fault : LineageFault) → Lineage ps name chain → IsLineageFault ps name fault → fault ≡ OutOfMemory alloc_error
   no_fault name chain (NoProfile n) h is =
-      let last = leads_none (Some name) chain h.0 is.1 h.1 in
-      not_built_in name is.2 (subst (λ (o : Option Text). IfSome o (λ t. IsTrue (is_built_in t))) (sym last.1) h.3)
+      not_built_in name is.2 (subst (λ (o : Option Text). IfSome o (λ t. IsTrue (is_built_in t))) (sym (leads_none (Some name) chain h.0 is.1 h.1).1) h.3)
   no_fault name chain (NoParent path n) h is =
       let last = leads_once (Some name) (is.0 ++ is.1 ∷ []) (Some (string_bytes n)) chain h.0 is.3 is.4 h.1 h.2 in
       not_built_in (string_bytes n) is.5 (subst (λ (o : Option Text). IfSome o (λ t. IsTrue (is_built_in t))) (sym last.1) h.3)

@@ -28,8 +28,7 @@ comes_later : (k : String Global) (es : List Entry) → AllByRecursion (λ y. st
 comes_later k [] h j at = absurd (cc)
 comes_later k (e ∷ es) h zero at =
     let same : string_bytes e.0 ≡ string_bytes k = cc in
-    let less : slice_cmp nat_cmp (string_bytes k) (string_bytes e.0) ≡ Less = h.0 in
-    let wrong : true ≡ false = sym (same_text (string_bytes k)) ∙ ap (λ t. is_eq (slice_cmp nat_cmp (string_bytes k) t)) (sym same) ∙ ap is_eq less in
+    let wrong : true ≡ false = sym (same_text (string_bytes k)) ∙ ap (λ t. is_eq (slice_cmp nat_cmp (string_bytes k) t)) (sym same) ∙ ap is_eq h.0 in
     cc
 comes_later k (e ∷ es) h (suc j) at = comes_later k es h.1 j at
 
@@ -99,16 +98,14 @@ link_fallback no_members distinct at name to here h = absurd (cc)
 link_fallback (member l d ms) distinct zero name to here h =
     let both = same_Some (l, fallback_of l d) (name, to) h in
     let same : l ≡ name = ap (λ x. x.0) both in
-    let gives : fallback_of l d ≡ to = ap (λ x. x.1) both in
     ⊎_elim
-    (λ first. ap (option_and_then (fallback_of name)) first.1 ∙ ap (λ t. fallback_of t d) (sym same) ∙ gives)
+    (λ first. ap (option_and_then (fallback_of name)) first.1 ∙ ap (λ t. fallback_of t d) (sym same) ∙ (ap (λ x. x.1) both))
     (λ later. absurd (later.0 (sym same)))
     (first_or_later name l d ms)
 link_fallback (member l d ms) distinct (suc at) name to here h =
     ⊎_elim
     (λ first.
-    let one : zero ≡ suc at = distinct zero (suc at) name (ap Some (sym first.0)) here in
-    absurd (omega (arith, one)))
+    absurd (omega (arith, distinct zero (suc at) name (ap Some (sym first.0)) here)))
     (λ later.
     ap (option_and_then (fallback_of name)) later.1
     ∙ link_fallback ms (tail_distinct l (keys_of ms) distinct) at name to here h)
@@ -151,11 +148,10 @@ module _ (ms : Members) (distinct : AreDistinct (keys_of ms)) (positions : BTree
   parent_at : (at : ℕ) (name : Text) → slice_get (keys_of ms) at ≡ Some name → lead parents at ≡ option_and_then (position_of positions) (fallback ms name)
   parent_at at name here =
       let link = key_link ms at name here in
-      let to : fallback ms name ≡ link.0 = link_fallback ms distinct at name link.0 here link.1 in
       let f = λ (l : Text × Option Text). option_and_then (position_of positions) l.1 in
       ap (λ (ps : List (Option ℕ)). lead ps at) are
       ∙ ap (option_and_then (λ (o : Option ℕ). o)) (slice_get-map f (links_of ms) at ∙ ap (option_map f) link.1)
-      ∙ ap (option_and_then (position_of positions)) (sym to)
+      ∙ ap (option_and_then (position_of positions)) (sym (link_fallback ms distinct at name link.0 here link.1))
 
   steps_down : (n at to : ℕ) (name : Text) → slice_get (keys_of ms) at ≡ Some name → lead_after parents n at ≡ Some to
       → (last : Text) × (after ms n name ≡ Some last) × (slice_get (keys_of ms) to ≡ Some last)
@@ -181,15 +177,12 @@ module _ (ms : Members) (distinct : AreDistinct (keys_of ms)) (positions : BTree
 
   steps_up : (n at to : ℕ) (name last : Text) → slice_get (keys_of ms) at ≡ Some name → after ms n name ≡ Some last
       → slice_get (keys_of ms) to ≡ Some last → lead_after parents n at ≡ Some to
-  steps_up zero at to name last here h there =
-      let same : name ≡ last = cc in
-      ap Some (distinct at to last (here ∙ ap Some same) there)
+  steps_up zero at to name last here h there = ap Some (distinct at to last (here ∙ ap Some cc) there)
   steps_up (suc n) at to name last here h there =
       let step = through (fallback ms name) (after ms n) last h in
       let on = goes_to n to step.0 last step.2 there in
       let found = some_is (position_of positions step.0) (index.1 step.0 on.0 on.1) in
-      let next : lead parents at ≡ Some found.0 = parent_at at name here ∙ ap (option_and_then (position_of positions)) step.1 ∙ found.1 in
-      ap (option_and_then (lead_after parents n)) next
+      ap (option_and_then (lead_after parents n)) (parent_at at name here ∙ ap (option_and_then (position_of positions)) step.1 ∙ found.1)
       ∙ steps_up n found.0 to step.0 last (index.0 step.0 found.0 found.1) step.2 there
 
   length-parents : length parents ≡ length (keys_of ms)
@@ -198,8 +191,7 @@ module _ (ms : Members) (distinct : AreDistinct (keys_of ms)) (positions : BTree
 
   down : (at : ℕ) → LeadsBack parents at → IsProfileInCircle ms at
   down at back =
-      let within : at < length (keys_of ms) = omega (arith, lead_within parents back.0 at at back.1, length-parents) in
-      let here = some_at (keys_of ms) at within in
+      let here = some_at (keys_of ms) at (omega (arith, lead_within parents back.0 at at back.1, length-parents)) in
       let steps = steps_down (suc back.0) at at here.0 here.1 back.1 in
       let same : steps.0 ≡ here.0 = (let e : Some steps.0 ≡ Some here.0 = sym steps.2 ∙ here.1 in cc) in
       (here.0, here.1, (back.0, steps.1 ∙ ap Some same))
@@ -214,6 +206,5 @@ module _ (ms : Members) (distinct : AreDistinct (keys_of ms)) (positions : BTree
     λ marked. down at (far_exactly parents leads far at ((ends at).0 marked).1),
     λ circle.
         let back = up at circle in
-        let within : at < length leads = omega (arith, lead_within parents back.0 at at back.1, far.2.0) in
-        (ends at).1 (within, far_all parents leads far at back),
+        (ends at).1 (omega (arith, lead_within parents back.0 at at back.1, far.2.0), far_all parents leads far at back),
   )

@@ -36,8 +36,7 @@ ends_more leads n marks new to here is before = (
     (λ h.
         ⊎_elim
         (λ same.
-        let ends : to ≡ Some at = sym here ∙ ap (lead leads) (sym same) ∙ h.1.2 in
-        (is.1 at).1 (inr (omega (arith, h.0, before.0), ends)))
+        (is.1 at).1 (inr (omega (arith, h.0, before.0), sym here ∙ ap (lead leads) (sym same) ∙ h.1.2)))
         (λ other. (is.1 at).1 (inl ((before.1 at).1 (h.0, (h.1.0, omega (arith, h.1.1, other), h.1.2)))))
         (cases_eq h.1.0 n)),
   ),

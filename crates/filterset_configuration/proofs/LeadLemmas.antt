@@ -70,11 +70,9 @@ module _ (ps : List (Option ℕ)) where
   trail_within zero at x q h any = absurd (cc)
   trail_within (suc n) at x q h any =
       let next = through (lead ps at) (lead_after ps n) x h in
-      let here = lead_inside at next.0 next.1 in
-      let later : list_any (eqb q) (at ∷ trail n next.0) ≡ true = ap (λ o. list_any (eqb q) (at ∷ option_map_or (trail n) o [])) (sym next.1) ∙ any in
       ⊎_elim
-      (λ same. subst (λ k. k < length ps) (sym same) here)
-      (λ other. trail_within n next.0 x q next.2 (grind (arith, later, other)))
+      (λ same. subst (λ k. k < length ps) (sym same) (lead_inside at next.0 next.1))
+      (λ other. trail_within n next.0 x q next.2 (grind (arith, ap (λ o. list_any (eqb q) (at ∷ option_map_or (trail n) o [])) (sym next.1) ∙ any, other)))
       (cases_eq q at)
 
   -- a position is met again, or never
@@ -82,14 +80,11 @@ module _ (ps : List (Option ℕ)) where
   Meets n y at = ((j : ℕ) × (lead_after ps j y ≡ Some at)) ⊎ AllByRecursion (λ z. eqb at z ≡ false) (trail n y)
 
   met_later : (n y at : ℕ) (o : Option ℕ) → lead ps y ≡ o → at ≢ y → ((z : ℕ) → Meets n z at) → Meets (suc n) y at
-  met_later n y at None is other rest =
-      let apart : eqb at y ≡ false = grind (arith, other) in
-      inr (apart, subst (λ o. AllByRecursion (λ z. eqb at z ≡ false) (option_map_or (trail n) o [])) (sym is) tt)
+  met_later n y at None is other rest = inr (grind (arith, other), subst (λ o. AllByRecursion (λ z. eqb at z ≡ false) (option_map_or (trail n) o [])) (sym is) tt)
   met_later n y at (Some z) is other rest =
-      let apart : eqb at y ≡ false = grind (arith, other) in
       ⊎_elim
       (λ met. inl (suc met.0, ap (option_and_then (lead_after ps met.0)) is ∙ met.1))
-      (λ never. inr (apart, subst (λ o. AllByRecursion (λ z. eqb at z ≡ false) (option_map_or (trail n) o [])) (sym is) never))
+      (λ never. inr (grind (arith, other), subst (λ o. AllByRecursion (λ z. eqb at z ≡ false) (option_map_or (trail n) o [])) (sym is) never))
       (rest z)
 
   meets : (n y at : ℕ) → Meets n y at
@@ -111,8 +106,7 @@ module _ (ps : List (Option ℕ)) where
       (λ distinct.
       ⊎_elim
       (λ met.
-      let again : lead_after ps (suc met.0) at ≡ Some at = ap (option_and_then (lead_after ps met.0)) next.1 ∙ met.1 in
-      inl (met.0, back_on (suc met.0) (suc n) at x again h))
+      inl (met.0, back_on (suc met.0) (suc n) at x (ap (option_and_then (lead_after ps met.0)) next.1 ∙ met.1) h))
       (λ never. inr (subst (λ o. IsDistinct eqb (at ∷ option_map_or (trail n) o [])) (sym next.1) (never, distinct)))
       (meets n next.0 at))
       (back_or_distinct n next.0 x next.2)
@@ -124,8 +118,7 @@ module _ (ps : List (Option ℕ)) where
       (λ back. back)
       (λ distinct.
       let few = length-le_from_distinct_below (trail n at) (length ps) distinct (λ q any. trail_within n at x q h any) in
-      let all = length-trail n at x h in
-      absurd (omega (arith, few, all)))
+      absurd (omega (arith, few, length-trail n at x h)))
       (back_or_distinct n at x h)
 
   -- and they end at each position of a circle
@@ -133,9 +126,8 @@ module _ (ps : List (Option ℕ)) where
   back_from_far n x back =
       let m = suc back.0 in
       let many : n * m ≡ n * back.0 + n = omega arith in
-      let h = back_often n m x back.1 in
       let parts = through (lead_after ps (n * back.0) x) (lead_after ps n) x
-      (sym (lead_after-add (n * back.0) n x) ∙ ap (λ k. lead_after ps k x) (sym many) ∙ h) in
+      (sym (lead_after-add (n * back.0) n x) ∙ ap (λ k. lead_after ps k x) (sym many) ∙ (back_often n m x back.1)) in
       (parts.0, parts.2)
 
   -- exactly the positions of circles are where far leads end

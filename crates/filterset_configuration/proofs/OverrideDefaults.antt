@@ -22,7 +22,6 @@ pub set_by_override : (ranked : List RankedOverride) (lineage : List Profile) (f
 set_by_override ranked lineage first path text is_first known sets at (Err e) h = tt
 set_by_override ranked lineage first path text is_first known sets at (Ok (Set p t)) h =
     let passes = find_passes (λ (r : RankedOverride). is_some r.read.now.default_filter && unwrap_or r.for_target true) ranked first is_first in
-    let may : unwrap_or first.for_target true ≡ true = (and_parts _ _ passes).1 in
-    rw is_first (surely first.for_target known may, (h.0 ∙ ap (λ x. x ++ codes ".default-filter") at, sets ∙ ap Some (sym h.1)))
+    rw is_first (surely first.for_target known ((and_parts _ _ passes).1), (h.0 ∙ ap (λ x. x ++ codes ".default-filter") at, sets ∙ ap Some (sym h.1)))
 set_by_override ranked lineage first path text is_first known sets at (Ok (Unknown p)) h = absurd h
 set_by_override ranked lineage first path text is_first known sets at (Ok All) h = absurd h

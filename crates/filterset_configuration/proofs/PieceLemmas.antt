@@ -175,9 +175,7 @@ mapped_some : (r : Read Text) (bytes next : Text) → option_map {U = Option Tex
 mapped_some None bytes next h = absurd (cc)
 mapped_some (Some p) bytes next h =
     let parts = some_pair_parts _ _ _ _ h in
-    let front : p.0 ≡ bytes = same_Some _ _ parts.0 in
-    let back : p.1 ≡ next = parts.1 in
-    ap (λ a. Some (a, p.1)) front ∙ ap (λ b. Some (bytes, b)) back
+    ap (λ a. Some (a, p.1)) (same_Some _ _ parts.0) ∙ ap (λ b. Some (bytes, b)) parts.1
 
 -- an escape, behind its backslash
 escape_read : (multi : Bool) (cs bytes next : Text) → read_piece (record { byte = 34; is_multi = multi }) (92 ∷ cs) ≡ Some (Some bytes, next)
@@ -245,8 +243,7 @@ char_piece multi text bytes next test h =
 pub char_length : (ahead bytes more rest : Text) (c d : ℕ) → bytes ≡ encode_utf8 c → ahead ≡ bytes ++ more → ahead ≡ encode_utf8 d ++ rest
     → length bytes ≡ length (encode_utf8 d)
 char_length ahead bytes more rest c d is here there =
-    let both : encode_utf8 c ++ more ≡ encode_utf8 d ++ rest = sym (ap (λ b. b ++ more) is) ∙ sym here ∙ there in
-    ap length is ∙ ap (λ x. length (encode_utf8 x)) (encode_same c d more rest both).0
+    ap length is ∙ ap (λ x. length (encode_utf8 x)) (encode_same c d more rest (sym (ap (λ b. b ++ more) is) ∙ sym here ∙ there)).0
 
 -- what is left after blanks is an end of the text
 pub skip_from-drops : (comments inside : Bool) (text : Text) → (k : ℕ) × (k ≤ length text) × (skip_from comments inside text ≡ drop k text)

@@ -105,6 +105,5 @@ pub cfg_only : (text inside : Text) (spec : Spec) → text ≡ codes "cfg(" ++ i
     → (e : Expr) × (spec ≡ satisfies e) × IsWhole e inside
 cfg_only text inside (is_named t) at spells = absurd (no_triple inside text at spells.1)
 cfg_only text inside (satisfies e) at spells =
-    let same : spells.0 ≡ inside = tails (tails (tails (tails (sym spells.1 ∙ at)))) in
     let P : Text → Type 0 = λ x. IsWhole e x in
-    (e, refl, subst P same spells.2)
+    (e, refl, subst P (tails (tails (tails (tails (sym spells.1 ∙ at))))) spells.2)

@@ -30,11 +30,8 @@ word_boundary t utf8 = at (word_len t) refl
     at : (n : ℕ) → n ≡ word_len t → IsCharBoundary t n
     at zero e = IsCharBoundary-start t utf8
     at (suc n) e =
-        let lt : n < word_len t = omega arith in
         let within = prefix_len-le-length is_word_byte t in
-        let short : n < length t = omega arith in
-        let ascii = word_is_ascii (get_or t n 0) (prefix_len_passes is_word_byte t n 0 lt) in
-        rw (← add-one) (IsCharBoundary-after_ascii t n utf8 short ascii)
+        rw (← add-one) (IsCharBoundary-after_ascii t n utf8 (omega arith) (word_is_ascii (get_or t n 0) (prefix_len_passes is_word_byte t n 0 (omega arith))))
 
 -- a word has a letter at least
 pub word_len-some : (s : Text) → begins_word s ≡ true → 0 < word_len s

@@ -12,8 +12,7 @@ pub flat_more : {X A : Type 0} (f : X → List A) (xs : List (Bor X)) (i : ℕ) 
     → flat_map f (map (λ y. y.now) (take (i + 1) xs)) ≡ flat_map f (map (λ y. y.now) (take i xs)) ++ f x.now
 flat_more f xs i x lt is =
     let now = λ (y : Bor _). y.now in
-    let more : take (i + 1) xs ≡ take i xs ++ x ∷ [] = take_more xs i x lt ∙ ap (λ y. take i xs ++ y ∷ []) (sym is) in
-    ap (λ ys. flat_map f (map now ys)) more ∙ ap (flat_map f) (map-append now (take i xs) (x ∷ []))
+    ap (λ ys. flat_map f (map now ys)) (take_more xs i x lt ∙ ap (λ y. take i xs ++ y ∷ []) (sym is)) ∙ ap (flat_map f) (map-append now (take i xs) (x ∷ []))
     ∙ sym (flat_map_more f [] (map now (take i xs)) x.now)
 
 pub length-placed : (p : Profile) → length (placed p) ≡ length p.overrides.items
@@ -30,9 +29,7 @@ placed_more p i o lt is =
     let within : i < length (placed p) = omega (arith, length-placed p) in
     let inside : i < length (enumerate_from 0 os) = omega (arith, length-enumerate_from 0 os) in
     let first : ℕ × Override = (i, o) in
-    let found : ℕ × Override = (0 + i, get_or os i o) in
-    let at : get_or (enumerate_from 0 os) i first ≡ found = get_or-enumerate_from 0 os i first lt in
     let here : get_or (placed p) i d ≡ place (get_or (enumerate_from 0 os) i first) = get_or-map place (enumerate_from 0 os) i first d inside in
     let zero : 0 + i ≡ i = omega arith in
-    let same : place found ≡ d = λ j. (path (zero j), sym is j) in
-    take_more (placed p) i d within ∙ ap (λ y. take i (placed p) ++ y ∷ []) (here ∙ ap place at ∙ same)
+    let same : place (0 + i, get_or os i o) ≡ d = λ j. (path (zero j), sym is j) in
+    take_more (placed p) i d within ∙ ap (λ y. take i (placed p) ++ y ∷ []) (here ∙ ap place (get_or-enumerate_from 0 os i first lt) ∙ same)

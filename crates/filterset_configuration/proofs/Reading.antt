@@ -45,6 +45,4 @@ no_table e p (Some ms) text h = absurd (true≢false text)
 -- the target's platform, where a text stands for it
 pub target_of : (d e : Data) (p : PlatformFilter) → get (codes "platform") d ≡ Some e → is_some (as_table e) ≡ false
     → ArePlatforms (unwrap_or (get (codes "platform") d) (table no_members)) p → Under IsPlatform (codes "platform") d p.target
-target_of d e p found text h =
-    let here : ArePlatforms e p = rw found at h in
-    rw found (no_table e p (as_table e) text here).1
+target_of d e p found text h = rw found (no_table e p (as_table e) text (rw found at h)).1

@@ -8,10 +8,7 @@ use Rattle.filterset_configuration.proofs.checking.is_right.Goals as goal
 pub returns-in-None-clause-right : goal.returns-in-None-clause-right
 returns-in-None-clause-right c =
     let at = c.in-NoCircle.at in
-    let marks = c.args.file.now.circles.items in
     let P : ValueRole → Type 0 = λ role. IsRight (view c.args.file.now.file.now) role c.args.text.now in
     subst P (sym c.in-NoCircle.is)
     (λ circle.
-    let marked : slice_get marks at ≡ Some true = (c.requires.0 at).1 circle in
-    let within : at < length marks = slice_get_within marks at true marked in
-    omega (arith, within, c.in-None.ensures.lookup.3, ap length c.deref.ensures.value))
+    omega (arith, slice_get_within c.args.file.now.circles.items at true ((c.requires.0 at).1 circle), c.in-None.ensures.lookup.3, ap length c.deref.ensures.value))

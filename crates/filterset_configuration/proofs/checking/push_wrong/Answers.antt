@@ -7,7 +7,6 @@ use Rattle.filterset_configuration.proofs.checking.push_wrong.Goals as goal
 pub returns : goal.returns
 returns c =
     let row = value_row c.args.value.now in
-    let wrong : ¬ IsRight (view c.args.file.now.file.now) row.role row.text = search (rules, c.in_ok-is_right.ensures, c.as_str.ensures.value) in
     let w : WrongValue = record {
       path = c.in_ok-from_str.field-0;
       expected = c.expected.result;
@@ -15,4 +14,4 @@ returns c =
       place = c.in_ok-place_in.field-0;
     } in
     let is : IsWrongValue c.args.file.now.text.now c.args.at row w = search (rules, c.in_ok-from_str.ensures, c.expected.ensures, c.in_ok-from_str-2.ensures, c.in_ok-place_in.ensures) in
-    (w ∷ [], c.in_ok-push.ensures.items, inr (wrong, w, refl, is))
+    (w ∷ [], c.in_ok-push.ensures.items, inr (search (rules, c.in_ok-is_right.ensures, c.as_str.ensures.value), w, refl, is))

@@ -21,9 +21,8 @@ loop-name-preserved c =
     let link : Link = record { name = c.as_str-name.result; fallback = c.fallback_of-fallback.result } in
     let old = map link_row links in
     let more = links_of (members_view c.next.new.self) in
-    let name : c.as_str-name.result.now ≡ string_bytes e.0 = c.as_str-name.ensures.value in
     let row : link_row link ≡ (string_bytes e.0, fallback_of (string_bytes e.0) (view e.1)) =
-    ap (λ t. (c.as_str-name.result.now, t)) c.fallback_of-fallback.ensures ∙ ap (λ n. (n, fallback_of n (view e.1))) name in
+    ap (λ t. (c.as_str-name.result.now, t)) c.fallback_of-fallback.ensures ∙ ap (λ n. (n, fallback_of n (view e.1))) c.as_str-name.ensures.value in
     ap (λ ls. map link_row ls ++ more) c.in_ok-push.ensures.items
     ∙ ap (λ rs. rs ++ more) (map-append link_row links (link ∷ []))
     ∙ append_assoc old (link_row link ∷ []) more

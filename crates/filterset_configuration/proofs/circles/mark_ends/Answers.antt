@@ -19,13 +19,10 @@ loop-to-preserved c =
     let i = c.loop-to.to-index in
     let marks = c.loop-to.marks.items in
     let new = c.mark.new.marks in
-    let rest = drop (length new) marks in
     let to = get_or leads i None in
-    let lt : i < length leads = omega (arith, c.loop-to-test.true) in
-    let here : lead leads i ≡ to = ap (option_and_then (λ (o : Option ℕ). o)) (slice_get-get_or leads i None lt) in
+    let here : lead leads i ≡ to = ap (option_and_then (λ (o : Option ℕ). o)) (slice_get-get_or leads i None (omega (arith, c.loop-to-test.true))) in
     let is : IsMarked marks to new = subst (λ (ms : List Bool). IsMarked ms to new) c.deref_mut.ensures.value c.mark.ensures in
-    let long : c.loop-to.marks.len ≡ length new = omega (arith, is.0, c.loop-to.marks.ok.0) in
-    subst (λ (ms : List Bool). MarksEndsBelow leads (i + 1) ms) (sym (whole_written c.loop-to.marks.len new rest long))
+    subst (λ (ms : List Bool). MarksEndsBelow leads (i + 1) ms) (sym (whole_written c.loop-to.marks.len new (drop (length new) marks) (omega (arith, is.0, c.loop-to.marks.ok.0))))
     (ends_more leads i marks new to here is c.loop-to.invariant)
 
 pub returns : goal.returns

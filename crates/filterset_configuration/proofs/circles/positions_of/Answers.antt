@@ -18,8 +18,7 @@ loop-at-preserved c =
     let names = map name_of (take i links) in
     let long : length names ≡ i = omega (arith, length-map (take i links) name_of, length-take-le i links (omega arith)) in
     let updates = btree_map_updates_str (name_of link) c.loop-at.positions c.insert.new.self _ c.in_ok-insert.ensures.updates in
-    let more : map name_of (take (i + 1) links) ≡ names ++ name_of link ∷ [] = ap (map name_of) (take_more links i none lt) ∙ map-append name_of (take i links) (link ∷ []) in
     let there : (q : Text) → position_of c.insert.new.self q ≡ cond (bytes_eq (name_of link) q) (Some (length names)) (position_of c.loop-at.positions q) =
     λ q. updates q ∙ ap (λ n. cond (bytes_eq (name_of link) q) (Some n) (position_of c.loop-at.positions q)) (sym long) in
-    subst (λ (ns : List Text). IsIndex ns c.insert.new.self) (sym more)
+    subst (λ (ns : List Text). IsIndex ns c.insert.new.self) (sym (ap (map name_of) (take_more links i none lt) ∙ map-append name_of (take i links) (link ∷ [])))
     (index_more names (name_of link) c.loop-at.positions c.insert.new.self there c.loop-at.invariant)

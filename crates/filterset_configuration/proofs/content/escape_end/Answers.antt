@@ -9,16 +9,14 @@ pub returns-then-starts_newline : goal.returns-then-starts_newline
 returns-then-starts_newline c =
     let file = c.args.file.now in
     let escape = c.in-Some.escape.now in
-    let is : escape ≡ drop (c.args.at + 1) file = grind (arith, common_steps) in
     let breaks : starts_newline (skip_ws escape) ≡ true = ap starts_newline (sym c.skip_ws.ensures.rest) ∙ sym c.starts_newline.ensures ∙ c.if-starts_newline.true in
-    ends_break file escape c.skip_blank.result.now c.args.at c.args.is_multi _ c.requires is c.skip_blank.ensures.rest c.skip_blank.ensures.within
+    ends_break file escape c.skip_blank.result.now c.args.at c.args.is_multi _ c.requires (grind (arith, common_steps)) c.skip_blank.ensures.rest c.skip_blank.ensures.within
     (and_from c.args.is_multi (starts_newline (skip_ws escape)) c.if-is_multi.true breaks)
 
 pub returns : goal.returns
 returns c =
     let file = c.args.file.now in
     let escape = c.in-Some.escape.now in
-    let is : escape ≡ drop (c.args.at + 1) file = grind (arith, common_steps) in
     let test : (c.args.is_multi && starts_newline (skip_ws escape)) ≡ false =
     elim c.else-is_multi.branch [
       | else-is_multi-via-then-is_multi+else-starts_newline w ↦
@@ -27,5 +25,5 @@ returns c =
     ] in
     let ahead : c.in-Some-split_at_checked.ahead.now ≡ drop c.args.read c.args.text.now = grind (arith, common_steps) in
     let (d, rest, begins, counted) = c.in-Some-first_length.ensures in
-    ends_char file escape (drop c.args.read c.args.text.now) rest c.args.at _ c.in-Some-first_length.count d c.args.is_multi c.requires is test
+    ends_char file escape (drop c.args.read c.args.text.now) rest c.args.at _ c.in-Some-first_length.count d c.args.is_multi c.requires (grind (arith, common_steps)) test
     (ap (λ n. 1 + n) (c.digit_count-size.ensures.value ∙ ap hex_len c.first.ensures)) (omega arith) (sym ahead ∙ begins) counted

@@ -10,16 +10,12 @@ pieces-init c = record {
 
 pub pieces-preserved : goal.pieces-preserved
 pieces-preserved c =
-    let d = c.args.delimiter in
-    let file = c.args.file.now in
     record {
       within = c.in-Some.ensures.within;
       come = λ n after read.
-          let more = rw c.as_bytes.ensures.value at (sym c.is_end.ensures ∙ c.pieces-test.true) in
           let counted : c.pieces.origins.len ≡ length c.pieces.origins.items = omega (arith, c.pieces.origins.ok.0) in
-          let ends = rw (c.len.ensures, counted) at c.in-Some.ensures in
-          rw c.in_ok-push_origins.ensures (come_more d file c.args.start c.args.text.now after c.pieces.at c.pieces.origins.items c.in-Some.piece
-          (c.pieces.invariant.come n after read) more ends);
+          rw c.in_ok-push_origins.ensures (come_more c.args.delimiter c.args.file.now c.args.start c.args.text.now after c.pieces.at c.pieces.origins.items c.in-Some.piece
+          (c.pieces.invariant.come n after read) (rw c.as_bytes.ensures.value at (sym c.is_end.ensures ∙ c.pieces-test.true)) (rw (c.len.ensures, counted) at c.in-Some.ensures));
     }
 
 pub returns : goal.returns

@@ -18,11 +18,8 @@ returns-then-is_built_in-clause-only c = λ other h.
     let ps = c.args.profiles.now in
     let name = c.args.name.now in
     let chain = map (λ p. p.now) c.loop-next.chain.items in
-    let wanted = c.in-Some.wanted.now in
     let leads = leads_to ps name chain c.loop-next.next (Some c.in-Some.wanted) c.in-Some.is c.loop-next.invariant.leads in
-    let none : named ps wanted ≡ None = sym c.in_default-find_profile.ensures.found in
-    let built_in : is_built_in wanted ≡ true = sym c.is_built_in.ensures ∙ c.if-is_built_in.true in
-    lineage_once ps name chain other (Some wanted, leads, none, built_in) h
+    lineage_once ps name chain other (Some c.in-Some.wanted.now, leads, sym c.in_default-find_profile.ensures.found, sym c.is_built_in.ensures ∙ c.if-is_built_in.true) h
 
 pub returns-in_default-find_profile-clause-refused : goal.returns-in_default-find_profile-clause-refused
 returns-in_default-find_profile-clause-refused c =
@@ -32,10 +29,8 @@ returns-in_default-find_profile-clause-refused c =
     let wanted = c.in-Some.wanted.now in
     let fault = c.in_ok-missing.field-0 in
     let leads = leads_to ps name chain c.loop-next.next (Some c.in-Some.wanted) c.in-Some.is c.loop-next.invariant.leads in
-    let none : named ps wanted ≡ None = sym c.in_default-find_profile.ensures.found in
-    let other : is_built_in wanted ≡ false = sym c.is_built_in.ensures ∙ c.if-is_built_in.false in
     let is : IsMissing chain wanted fault = subst (λ (xs : List (Bor Profile)). IsMissing (map (λ p. p.now) xs) wanted fault) c.deref.ensures.value c.in_ok-missing.ensures in
-    missing_found ps name chain wanted fault leads none other is
+    missing_found ps name chain wanted fault leads (sym c.in_default-find_profile.ensures.found) (sym c.is_built_in.ensures ∙ c.if-is_built_in.false) is
 
 pub returns-in_default-find_profile-clause-only : goal.returns-in_default-find_profile-clause-only
 returns-in_default-find_profile-clause-only c = λ other h.
@@ -46,7 +41,6 @@ returns-then-index-clause-refused c =
     let ps = c.args.profiles.now in
     let name = c.args.name.now in
     let chain = map (λ p. p.now) c.loop-next.chain.items in
-    let wanted = c.in-Some.wanted.now in
     let marks = c.loop-next.is_passed.items in
     let i = c.in-Some-find_profile.at in
     let p = c.in-Some-find_profile.profile.now in
@@ -55,7 +49,7 @@ returns-then-index-clause-refused c =
     let many = c.loop-next.invariant.many in
     let within : i < length ps = found.position.0 in
     let mark : get_or marks i false ≡ true = mark_read marks i c.index.result.now true (omega arith) c.index.ensures c.if-index.true in
-    cycle_found ps name chain (Some wanted) p c.in_ok-path.path leads (sym found.found) (c.loop-next.invariant.passed i p mark found.position.1)
+    cycle_found ps name chain (Some c.in-Some.wanted.now) p c.in_ok-path.path leads (sym found.found) (c.loop-next.invariant.passed i p mark found.position.1)
     (c.in_ok-path.ensures ∙ ap profile_path c.as_str.ensures.value)
 
 pub returns-then-index-clause-only : goal.returns-then-index-clause-only
@@ -68,7 +62,6 @@ loop-next-preserved c =
     let name = c.args.name.now in
     let items = c.loop-next.chain.items in
     let chain = map (λ p. p.now) items in
-    let wanted = c.in-Some.wanted.now in
     let marks = c.loop-next.is_passed.items in
     let i = c.in-Some-find_profile.at in
     let profile = c.in-Some-find_profile.profile in
@@ -76,7 +69,7 @@ loop-next-preserved c =
     let leads = leads_to ps name chain c.loop-next.next (Some c.in-Some.wanted) c.in-Some.is c.loop-next.invariant.leads in
     let found = c.in-Some-find_profile.ensures in
     let pushed : map (λ q. q.now) c.push.new.self.items ≡ chain ++ p ∷ [] = ap (map (λ q. q.now)) c.in_ok-push.ensures.items ∙ map-append (λ q. q.now) items (profile ∷ []) in
-    let longer : Leads ps (Some name) (chain ++ p ∷ []) (parent p) = leads_push ps (Some name) chain (Some wanted) p leads (sym found.found) in
+    let longer : Leads ps (Some name) (chain ++ p ∷ []) (parent p) = leads_push ps (Some name) chain (Some c.in-Some.wanted.now) p leads (sym found.found) in
     let here = subst (λ (xs : List Profile). Leads ps (Some name) xs (parent p)) (sym pushed) longer in
     record {
       leads = subst (λ (o : Option Text). Leads ps (Some name) (map (λ q. q.now) c.push.new.self.items) o) (sym c.parent-next.ensures) here;
@@ -90,5 +83,4 @@ returns-clause-only c = λ other h.
     let ps = c.args.profiles.now in
     let name = c.args.name.now in
     let chain = map (λ p. p.now) c.loop-next.chain.items in
-    let leads = leads_to ps name chain c.loop-next.next None c.in_default.is c.loop-next.invariant.leads in
-    lineage_once ps name chain other (None, leads, refl, tt) h
+    lineage_once ps name chain other (None, leads_to ps name chain c.loop-next.next None c.in_default.is c.loop-next.invariant.leads, refl, tt) h

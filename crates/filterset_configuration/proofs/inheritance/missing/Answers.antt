@@ -9,9 +9,8 @@ last_cut : (xs : List (Bor Profile)) (x : Bor Profile) → 0 < length xs → x �
     → map (λ p. p.now) xs ≡ map (λ p. p.now) (take (length xs - 1) xs) ++ x.now ∷ []
 last_cut xs x some is =
     let n = length xs - 1 in
-    let whole : take (n + 1) xs ≡ xs = take_all (n + 1) xs (omega arith) in
     let more : take (n + 1) xs ≡ take n xs ++ get_or xs n x ∷ [] = take_more xs n x (omega arith) in
-    ap (map (λ p. p.now)) (sym whole ∙ more ∙ ap (λ y. take n xs ++ y ∷ []) (sym is)) ∙ map-append (λ p. p.now) (take n xs) (x ∷ [])
+    ap (map (λ p. p.now)) (sym (take_all (n + 1) xs (omega arith)) ∙ more ∙ ap (λ y. take n xs ++ y ∷ []) (sym is)) ∙ map-append (λ p. p.now) (take n xs) (x ∷ [])
 
 pub returns : goal.returns
 returns c =

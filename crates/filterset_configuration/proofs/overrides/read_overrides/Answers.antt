@@ -19,15 +19,13 @@ returns-in_err-read_override-clause-refused c =
     let items = c.as_slice-items.result.now in
     let i = c.loop-at.at in
     let item = c.index-items-at.result in
-    let lt : i < length items = c.loop-at-test.true in
-    let within : i < length (map view items) = omega (arith, length-map items view) in
     let under : get (codes "overrides") d ≡ Some e = search (rules, c.in-Some.ensures) in
     let here = listed _ d e (map view items) under (as_array-Some e _ c.in-Some-as_array.ensures) (ap (map view) (sym c.as_slice-items.ensures.value)) in
-    let is : get_or (map view items) i (view item) ≡ view item = get_or-map view items i item (view item) lt ∙ ap view (sym c.index-items-at.is) in
+    let is : get_or (map view items) i (view item) ≡ view item = get_or-map view items i item (view item) c.loop-at-test.true ∙ ap view (sym c.index-items-at.is) in
     handed_on c.from_residual-in_err-read_override.result c.in_err-read_override.field-0.0 c.from_residual-in_err-read_override.ensures.1
     (λ fact.
     let zip = subst (λ (ds : List Data). AllZip (IsOverride (view c.args.file.now)) ds fact.0) (items_same fact.1.0 (map view items) (array_same _ _ (sym fact.1.1 ∙ here))) fact.1.2 in
-    let found = zip_at (IsOverride (view c.args.file.now)) (map view items) fact.0 i (view item) within zip in
+    let found = zip_at (IsOverride (view c.args.file.now)) (map view items) fact.0 i (view item) (omega (arith, length-map items view)) zip in
     (found.0, subst (λ (d : Data). IsOverride (view c.args.file.now) d found.0) is found.1))
     c.in_err-read_override.ensures.refused
 
@@ -36,8 +34,7 @@ loop-at-preserved c =
     let items = c.as_slice-items.result.now in
     let i = c.loop-at.at in
     let item = c.index-items-at.result in
-    let lt : i < length items = c.loop-at-test.true in
-    let more : take (i + 1) items ≡ take i items ++ item ∷ [] = take_more items i item lt ∙ ap (λ x. take i items ++ x ∷ []) (sym c.index-items-at.is) in
+    let more : take (i + 1) items ≡ take i items ++ item ∷ [] = take_more items i item c.loop-at-test.true ∙ ap (λ x. take i items ++ x ∷ []) (sym c.index-items-at.is) in
     rw (c.in_ok-push.ensures.items, more, map-append view (take i items) (item ∷ []))
     (zip_push (IsOverride (view c.args.file.now)) (map view (take i items)) c.loop-at.overrides.items (view item) c.in_ok-read_override.field-0
     c.loop-at.invariant c.in_ok-read_override.ensures.read)

@@ -15,12 +15,10 @@ pub returns-in_err-read_profile-clause-refused : goal.returns-in_err-read_profil
 returns-in_err-read_profile-clause-refused c =
     let done = c.loop-name.invariant.0 in
     let e : Entry = (c.in-Some.name.now, c.in-Some.value.now) in
-    let step : c.loop-name.name-iterator ≡ e ∷ c.next.new.self = search (rules, c.in-Some.ensures.steps) in
-    let are = c.loop-name.invariant.1 ∙ ap (λ t. done ++ t) step in
+    let are = c.loop-name.invariant.1 ∙ ap (λ t. done ++ t) (search (rules, c.in-Some.ensures.steps)) in
     handed_on c.from_residual-in_err-read_profile.result c.in_err-read_profile.field-0.0 c.from_residual-in_err-read_profile.ensures.1
     (λ fact.
-    let all : members_view (done ++ e ∷ c.next.new.self) ≡ members_by fact.0 fact.1.0 = ap members_view (sym are) ∙ members_of_table _ _ fact.1.1 in
-    members_at (IsProfile (view c.args.file.now)) done e c.next.new.self fact.0 fact.1.0 fact.1.2 all)
+    members_at (IsProfile (view c.args.file.now)) done e c.next.new.self fact.0 fact.1.0 fact.1.2 (ap members_view (sym are) ∙ members_of_table _ _ fact.1.1))
     c.in_err-read_profile.ensures.refused
 
 pub loop-name-preserved : goal.loop-name-preserved

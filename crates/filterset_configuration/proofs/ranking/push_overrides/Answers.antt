@@ -37,5 +37,4 @@ returns c =
     let items = ap length c.deref-read-items.ensures.value in
     let many = length-placed profile in
     let inv = c.loop-at.invariant in
-    let whole : take c.loop-at.at (placed profile) ≡ placed profile = take_all c.loop-at.at (placed profile) (omega (arith, c.loop-at-test.false)) in
-    (inv.0, inv.1, rw whole at inv.2)
+    (inv.0, inv.1, rw (take_all c.loop-at.at (placed profile) (omega (arith, c.loop-at-test.false))) at inv.2)

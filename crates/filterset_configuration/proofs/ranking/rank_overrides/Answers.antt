@@ -9,8 +9,7 @@ loop-profile-preserved c =
     let lineage = c.args.lineage.now in
     let i = c.loop-profile.profile-index in
     let profile = c.profile-item.result in
-    let lt : i < length lineage = c.loop-profile-test.true in
     let more = c.in_ok-push_overrides.ensures in
-    rw (flat_more placed lineage i profile lt c.profile-item.is, more.1)
+    rw (flat_more placed lineage i profile c.loop-profile-test.true c.profile-item.is, more.1)
     (zip_append (IsRanked (facts_of c.args.host.now) (facts_of c.args.target.now)) (flat_map placed (map (λ p. p.now) (take i lineage))) c.loop-profile.ranked.items
     (placed profile.now) more.0 c.loop-profile.invariant more.2)

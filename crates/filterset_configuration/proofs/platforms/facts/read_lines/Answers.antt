@@ -17,9 +17,8 @@ returns-in_default-clause-refused c =
     let at = length c.loop-line.yielded in
     let settings = c.loop-line.settings.items in
     let known = c.loop-line.invariant in
-    let many = as_many _ _ known in
     let number : c.len.result + 1 ≡ at + 1 =
-    omega (arith, many, c.len.ensures, c.loop-line.settings.ok.0, length-map c.loop-line.yielded (λ s. s.now), length-map settings setting_of) in
+    omega (arith, as_many _ _ known, c.len.ensures, c.loop-line.settings.ok.0, length-map c.loop-line.yielded (λ s. s.now), length-map settings setting_of) in
     let line : c.in-Some.line.now ≡ get_or all at [] = turn.1 ∙ get_or_default all at c.in-Some.line.now [] turn.0 in
     let none = rw c.in_default.is at c.in_ok-setting.ensures in
     let refuted : (s : Setting) → ¬ IsLine (get_or all at []) s = λ s is. none s (let P : Text → Type 0 = λ t. IsLine t s in subst P (sym line) is) in
@@ -27,13 +26,11 @@ returns-in_default-clause-refused c =
 
 pub loop-line-preserved : goal.loop-line-preserved
 loop-line-preserved c =
-    let is = rw c.in-Some-2.is at c.in_ok-setting.ensures in
     rw (c.in_ok-push.ensures.items, map-append (λ s. s.now) c.loop-line.yielded (c.in-Some.line ∷ []), map-append setting_of c.loop-line.settings.items (c.in-Some-2.setting ∷ []))
-    (one_more_line _ _ c.in-Some.line.now (setting_of c.in-Some-2.setting) c.loop-line.invariant is)
+    (one_more_line _ _ c.in-Some.line.now (setting_of c.in-Some-2.setting) c.loop-line.invariant (rw c.in-Some-2.is at c.in_ok-setting.ensures))
 
 pub returns-clause-read : goal.returns-clause-read
 returns-clause-read c =
     let chain = YieldsList-from_lines {s = c.into_iter-line-iterator.result} c.args.text.now (cc) in
     let whole = YieldsList-end chain c.loop-line.yielded _ c.loop-line.yielded_by _ _ c.in-None.is c.next.ensures.steps in
-    let known = c.loop-line.invariant in
-    rw whole.0 at known
+    rw whole.0 at c.loop-line.invariant

@@ -79,9 +79,8 @@ read_not-returns-in_err-operand-clause-place t c =
 pub read_not-returns-in_default-after-clause-only : goal.read_not-returns-in_default-after-clause-only
 read_not-returns-in_default-after-clause-only t c = λ e r g.
     let p = not_phrase e c.args.text.now r g in
-    let at : p.2 ≡ c.in-Some.inside.now = sign_same 40 c.args.text.now p.4 c.in-Some.ensures.found in
     let Q : Text → Type 0 = λ x. Expression p.0 x p.3 in
-    let same = c.in_ok-operand.ensures.only p.0 p.3 (subst Q at p.5) in
+    let same = c.in_ok-operand.ensures.only p.0 p.3 (subst Q (sign_same 40 c.args.text.now p.4 c.in-Some.ensures.found) p.5) in
     let R : Text → Type 0 = λ x. Sign 41 x r in
     absurd (c.in_default-after.ensures.found r (subst R (sym same.1) p.6))
 
@@ -92,12 +91,10 @@ read_not-returns-in_default-after-clause-place t c =
 pub read_not-returns-clause-only : goal.read_not-returns-clause-only
 read_not-returns-clause-only t c = λ e r g.
     let p = not_phrase e c.args.text.now r g in
-    let at : p.2 ≡ c.in-Some.inside.now = sign_same 40 c.args.text.now p.4 c.in-Some.ensures.found in
     let Q : Text → Type 0 = λ x. Expression p.0 x p.3 in
-    let same = c.in_ok-operand.ensures.only p.0 p.3 (subst Q at p.5) in
+    let same = c.in_ok-operand.ensures.only p.0 p.3 (subst Q (sign_same 40 c.args.text.now p.4 c.in-Some.ensures.found) p.5) in
     let R : Text → Type 0 = λ x. Sign 41 x r in
-    let end = sign_same 41 c.in_ok-operand.behind.now c.in-Some-after.ensures.found (subst R (sym same.1) p.6) in
-    (c.in_ok-negate.ensures ∙ ap negated same.0 ∙ sym p.1, end)
+    (c.in_ok-negate.ensures ∙ ap negated same.0 ∙ sym p.1, sign_same 41 c.in_ok-operand.behind.now c.in-Some-after.ensures.found (subst R (sym same.1) p.6))
 
 pub read_not-returns-clause-place : goal.read_not-returns-clause-place
 read_not-returns-clause-place t c =
@@ -115,10 +112,9 @@ read_inside-returns-in-Some-clause-only t c = λ es r inside.
     let items = exprs_of c.loop-end.expressions.items in
     let found = c.loop-end.invariant.only es r inside in
     let last = ended found.0 c.loop-end.rest.now c.in-Some.end.now r c.in-Some.ensures.found found.2 in
-    let whole : items ≡ es = sym (append_none items) ∙ ap (λ x. items ⊕ x) (sym last.0) ∙ sym found.1 in
     let end = last.1 in
     let same = c.in-Some.end-is in
-    (whole, cc)
+    (sym (append_none items) ∙ ap (λ x. items ⊕ x) (sym last.0) ∙ sym found.1, cc)
 
 pub read_inside-returns-in-Some-clause-place : goal.read_inside-returns-in-Some-clause-place
 read_inside-returns-in-Some-clause-place t c =
@@ -154,14 +150,13 @@ pub read_inside-returns-in_default-after-clause-only : goal.read_inside-returns-
 read_inside-returns-in_default-after-clause-only t c = λ es r inside.
     let items = c.loop-end.expressions.items in
     let x = c.in_ok-expression.expression in
-    let grown : exprs_of c.push.new.self.items ≡ exprs_of items ⊕ more (expr_of x) none = ap exprs_of c.in_ok-push.ensures.items ∙ exprs_of_append items x in
     let found = c.loop-end.invariant.only es r inside in
     let next = goes_on found.0 c.loop-end.rest.now r c.in_default.ensures.found found.2 in
     let same = c.in_ok-expression.ensures.only next.0 next.2 next.4 in
     let P : Text → Type 0 = λ y. Tail next.1 y r in
     let last = no_comma next.1 c.in_ok-expression.behind.now r c.in_default-after.ensures.found (subst P (sym same.1) next.5) in
     let one : more (expr_of x) none ≡ found.0 = (λ i. more (same.0 i) (sym last.0 i)) ∙ sym next.3 in
-    let whole : exprs_of c.push.new.self.items ≡ es = grown ∙ ap (λ y. exprs_of items ⊕ y) one ∙ sym found.1 in
+    let whole : exprs_of c.push.new.self.items ≡ es = (ap exprs_of c.in_ok-push.ensures.items ∙ exprs_of_append items x) ∙ ap (λ y. exprs_of items ⊕ y) one ∙ sym found.1 in
     gives_along (λ (v : Vec CfgExpr Global). exprs_of v.items) c.close_list.result whole refl (c.close_list.ensures.only r last.1)
 
 pub read_inside-returns-in_default-after-clause-place : goal.read_inside-returns-in_default-after-clause-place
@@ -177,9 +172,8 @@ read_inside-loop-end-preserved t c =
     let x = c.in_ok-expression.expression in
     let behind = c.in_ok-expression.behind.now in
     let next = c.in-Some-after.next.now in
-    let grown : exprs_of c.push.new.self.items ≡ exprs_of items ⊕ more (expr_of x) none = ap exprs_of c.in_ok-push.ensures.items ∙ exprs_of_append items x in
     let joined : (es : Exprs) → exprs_of c.push.new.self.items ⊕ es ≡ exprs_of items ⊕ more (expr_of x) es =
-    λ es. ap (λ y. y ⊕ es) grown ∙ append_one (exprs_of items) (expr_of x) es in
+    λ es. ap (λ y. y ⊕ es) (ap exprs_of c.in_ok-push.ensures.items ∙ exprs_of_append items x) ∙ append_one (exprs_of items) (expr_of x) es in
     record {
       utf8 = search rules;
       onward = λ es r inside.

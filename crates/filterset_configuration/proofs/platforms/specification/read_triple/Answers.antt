@@ -5,8 +5,7 @@ use Rattle.filterset_configuration.proofs.platforms.specification.read_triple.Go
 
 pub returns-then-count-text-clause-place : goal.returns-then-count-text-clause-place
 returns-then-count-text-clause-place c =
-    let stop = rw c.as_bytes.ensures.value at c.triple_len-count.ensures.stop in
-    triple_fault c.args.text.now c.triple_len-count.result _ (omega arith) (stop (omega arith))
+    triple_fault c.args.text.now c.triple_len-count.result _ (omega arith) ((rw c.as_bytes.ensures.value at c.triple_len-count.ensures.stop) (omega arith))
 
 pub returns-clause-read : goal.returns-clause-read
 returns-clause-read c =

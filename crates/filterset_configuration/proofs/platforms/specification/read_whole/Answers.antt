@@ -12,9 +12,8 @@ returns-in_err-expression-clause-only c = λ e whole.
 
 pub returns-in_default-clause-only : goal.returns-in_default-clause-only
 returns-in_default-clause-only c = λ e whole.
-    let same = c.in_ok-expression.ensures.only e whole.0 whole.1 in
     let P : Text → Type 0 = λ x. Sign 41 x [] in
-    absurd (c.in_default.ensures.found [] (subst P (sym same.1) whole.2))
+    absurd (c.in_default.ensures.found [] (subst P (sym (c.in_ok-expression.ensures.only e whole.0 whole.1).1) whole.2))
 
 pub returns-in_default-clause-place : goal.returns-in_default-clause-place
 returns-in_default-clause-place c = true_along c.args.text.now c.in_ok-expression.behind.now _ c.in_ok-expression.ensures.place c.expect.ensures
@@ -24,10 +23,8 @@ returns-then-is_empty-clause-only c = λ e whole. (c.in_ok-expression.ensures.on
 
 pub returns-clause-only : goal.returns-clause-only
 returns-clause-only c = λ e whole.
-    let same = c.in_ok-expression.ensures.only e whole.0 whole.1 in
     let P : Text → Type 0 = λ x. Sign 41 x [] in
-    let end : c.in-Some.rest.now ≡ [] = sign_same 41 c.in_ok-expression.behind.now c.in-Some.ensures.found (subst P (sym same.1) whole.2) in
-    let none = ap length end in
+    let none = ap length (sign_same 41 c.in_ok-expression.behind.now c.in-Some.ensures.found (subst P (sym (c.in_ok-expression.ensures.only e whole.0 whole.1).1) whole.2)) in
     let told = c.is_empty.ensures in
     grind (arith, nat_tests)
 

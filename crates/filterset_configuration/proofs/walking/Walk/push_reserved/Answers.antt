@@ -41,12 +41,11 @@ loop-name-preserved c =
 pub returns : goal.returns
 returns c =
     let rows = value_rows c.loop-name.self.values.items in
-    let first : c.in-Some.members.now.entries ≡ c.iter-name-items.result = search (rules, c.iter-name-items.ensures.rest) in
     let into : c.into_iter-name-iterator.result ≡ c.iter-name-items.result = search (rules, c.into_iter-name-iterator.ensures.into_iter_gives) in
     let known : Some (members_view c.in-Some.members.now.entries) ≡ option_and_then as_table (get c.args.key.now (view c.args.file.now)) =
     search (rules, c.in-Some.ensures) in
     sym (append-nil rows)
     ∙ ap (λ es. rows ++ name_values c.args.key.now c.args.role (members_view es)) (sym c.in-None.ensures.steps.0)
     ∙ c.loop-name.invariant
-    ∙ ap (λ es. value_rows c.args.self.now.values.items ++ name_values c.args.key.now c.args.role (members_view es)) (into ∙ sym first)
+    ∙ ap (λ es. value_rows c.args.self.now.values.items ++ name_values c.args.key.now c.args.role (members_view es)) (into ∙ sym (search (rules, c.iter-name-items.ensures.rest)))
     ∙ ap (λ (o : Option Members). value_rows c.args.self.now.values.items ++ name_values c.args.key.now c.args.role (unwrap_or o no_members)) known

@@ -16,7 +16,6 @@ returns-clause-place c = rw c.range_from.ensures.value (rest_of_drop c.word_len-
 
 pub returns-clause-shorter : goal.returns-clause-shorter
 returns-clause-shorter c =
-    let begins : begins_word c.as_bytes.result.now ≡ true = sym c.begins_word.ensures ∙ c.if-not-begins_word.false in
-    let some = word_len-some c.args.text.now (rw c.as_bytes.ensures.value at begins) in
+    let some = word_len-some c.args.text.now (rw c.as_bytes.ensures.value at (sym c.begins_word.ensures ∙ c.if-not-begins_word.false)) in
     let count : c.word_len-count.result ≡ word_len c.args.text.now = c.word_len-count.ensures.value ∙ ap word_len c.as_bytes-2.ensures.value in
     omega (arith, c.range_from.ensures.len)
