@@ -28,8 +28,7 @@ line_len-append (b ∷ []) more len h = elim (cases_Bool (b == 13)) [
 line_len-append (b ∷ d ∷ bs) more len h = elim (cases_Bool ((b == 13) && (d == 10))) [
   | inl is_end ↦ let e : Some 0 ≡ Some len = rw is_end at h in let z : 0 ≡ len = cc in (omega arith, rw is_end (ap Some z))
   | inr other ↦
-      let e : option_map suc (line_len (d ∷ bs)) ≡ Some len = rw other at h in
-      let (k, found, next) = suc-some (line_len (d ∷ bs)) len e in
+      let (k, found, next) = suc-some (line_len (d ∷ bs)) len (rw other at h) in
       let (within, same) = line_len-append (d ∷ bs) more k found in
       (omega arith, rw (other, same) (ap Some next))
 ]
@@ -60,15 +59,11 @@ line_len-split rest (b ∷ d ∷ bs) len h = elim (cases_Bool ((b == 13) && (d =
       let P : ℕ → Type 0 = λ k. IsSplit rest (b ∷ d ∷ bs) k in
       subst P z (ap (λ x. x ∷ d ∷ bs) first ∙ ap (λ x. 13 ∷ x ∷ bs) second, refl)
   | inr other ↦
-      let e : option_map suc (line_len (d ∷ bs)) ≡ Some len = rw other at h in
-      let (k, found, next) = suc-some (line_len (d ∷ bs)) len e in
+      let (k, found, next) = suc-some (line_len (d ∷ bs)) len (rw other at h) in
       let (same, line) = line_len-split rest (d ∷ bs) k found in
       let P : ℕ → Type 0 = λ k. IsSplit rest (b ∷ d ∷ bs) k in
       let two : suc k + 2 ≡ suc (k + 2) = omega arith in
-      let here = not_here b d k bs rest other in
-      let split : b ∷ d ∷ bs ≡ take (suc k) (b ∷ d ∷ bs) ++ 13 ∷ 10 ∷ drop (suc k + 2) (b ∷ d ∷ bs) = rw two (ap (λ t. b ∷ t) same) in
-      let break : line_len (take (suc k) (b ∷ d ∷ bs) ++ 13 ∷ 10 ∷ rest) ≡ Some (suc k) = rw (here, line) refl in
-      subst P next (split, break)
+      subst P next (rw two (ap (λ t. b ∷ t) same), rw (not_here b d k bs rest other, line) refl)
 ]
 
 -- ---- a head that is found is a head
@@ -88,10 +83,9 @@ sound_end h l at (Some n) text here is =
     let within = (line_len-append text [] 0 here).0 in
     let place : at + 2 ≡ h = cc in
     let same : n ≡ l = cc in
-    let two : take 2 text ≡ 13 ∷ 10 ∷ [] = ap (take 2) split in
     let P : Bytes → Type 0 = λ t. IsHead (Some n) t l in
     let Q : ℕ → Type 0 = λ m. IsHead (Some n) (13 ∷ 10 ∷ []) m in
-    (2, sym place, omega arith, subst P (sym two) (subst Q same end_of_head))
+    (2, sym place, omega arith, subst P (sym (ap (take 2) split)) (subst Q same end_of_head))
 
 sound_line : (h l at len : ℕ) (found : Option ℕ) (text : Bytes) (here : Option ℕ → Bytes → Head) → line_len text ≡ Some len
     → ((now : Option ℕ) (rest : Bytes) → here now rest ≡ Whole h l → Sound h l (at + (len + 2)) now rest)
@@ -105,11 +99,10 @@ sound_line h l at len found text here found_line later (Some now) is read =
     let size : length (take len text) ≡ len = length-take-le len text (omega arith) in
     let left : length rest ≡ length text - (len + 2) = length-drop (len + 2) text in
     let (split, line) = line_len-split (take k rest) text len found_line in
-    let break : line_len (take len text ++ 13 ∷ 10 ∷ take k rest) ≡ Some (length (take len text)) = line ∙ ap Some (sym size) in
     let whole : take (len + 2 + k) text ≡ take len text ++ 13 ∷ 10 ∷ take k rest =
     ap (take (len + 2 + k)) split ∙ take-past (take len text) rest len k size in
     let P : Bytes → Type 0 = λ t. IsHead found t l in
-    (len + 2 + k, omega arith, omega arith, subst P (sym whole) (next_line (take len text) (take k rest) break is head))
+    (len + 2 + k, omega arith, omega arith, subst P (sym whole) (next_line (take len text) (take k rest) (line ∙ ap Some (sym size)) is head))
 
 sound_lines : (h l n at : ℕ) (found : Option ℕ) (text : Bytes)
     → ((len : ℕ) (now : Option ℕ) (rest : Bytes) → head_from n (at + (len + 2)) now rest ≡ Whole h l → Sound h l (at + (len + 2)) now rest)
@@ -118,8 +111,7 @@ unfolding head_from
 sound_lines h l n at found text later None is whole = absurd (let e : Partial ≡ Whole h l = rw is at whole in cc)
 sound_lines h l n at found text later (Some len) is whole = elim (cases_Bool (len == 0)) [
   | inl empty ↦
-      let z : len ≡ 0 = grind (arith, nat_tests) in
-      sound_end h l at found text (is ∙ ap Some z) (rw (is, empty) at whole)
+      sound_end h l at found text (is ∙ ap Some (grind (arith, nat_tests))) (rw (is, empty) at whole)
   | inr full ↦
       sound_line h l at len found text (head_from n (at + (len + 2))) is (later len) (behind_line found (take len text)) refl (rw (is, full) at whole)
 ]
@@ -146,14 +138,12 @@ head_from-complete {found} {head} {l} (next_line {now = now} line rest break is 
     let text = (line ++ 13 ∷ 10 ∷ rest) ++ more in
     let same : text ≡ line ++ 13 ∷ 10 ∷ (rest ++ more) = append_assoc line (13 ∷ 10 ∷ rest) more in
     let here : line_len text ≡ Some (length line) = (line_len-append (line ++ 13 ∷ 10 ∷ rest) more (length line) break).1 in
-    let some = not_empty found now line is in
     let front : take (length line) text ≡ line = ap (take (length line)) same ∙ take-append_seam line (13 ∷ 10 ∷ (rest ++ more)) in
     let back : drop (length line + 2) text ≡ rest ++ more = ap (drop (length line + 2)) same ∙ drop-append-add line (13 ∷ 10 ∷ (rest ++ more)) 2 in
     let size : length (line ++ 13 ∷ 10 ∷ rest) ≡ length line + (2 + length rest) = omega (arith, length-append line (13 ∷ 10 ∷ rest)) in
-    let place : at + (length line + 2) + length rest ≡ at + length (line ++ 13 ∷ 10 ∷ rest) = omega arith in
     let ends : head_from n (at + (length line + 2)) now (rest ++ more) ≡ Whole (at + (length line + 2) + length rest) l =
     head_from-complete later n (at + (length line + 2)) more (omega arith) in
-    head_from-line n at (length line) found text here some ∙ rw (front, is, back) (ends ∙ ap (λ k. Whole k l) place)
+    head_from-line n at (length line) found text here (not_empty found now line is) ∙ rw (front, is, back) (ends ∙ ap (λ k. Whole k l) (omega arith))
 
 -- ---- what is found stays found
 
@@ -162,13 +152,9 @@ by_field : (len : ℕ) (o : Head) (text more : Bytes) (found : Option ℕ) (here
     → (p : Option (Option ℕ)) → behind_line found (take len text) ≡ p
     → option_map_or (λ now. here now (drop (len + 2) text)) p Malformed ≡ o
     → option_map_or (λ now. there now (drop (len + 2) (text ++ more))) (behind_line found (take len (text ++ more))) Malformed ≡ o
-by_field len o text more found here there within later None is read =
-    let front : take len (text ++ more) ≡ take len text = take-append-le len text more (omega arith) in
-    rw (front, is) read
+by_field len o text more found here there within later None is read = rw (take-append-le len text more (omega arith), is) read
 by_field len o text more found here there within later (Some now) is read =
-    let front : take len (text ++ more) ≡ take len text = take-append-le len text more (omega arith) in
-    let back : drop (len + 2) (text ++ more) ≡ drop (len + 2) text ++ more = drop-append-le (len + 2) text more within in
-    rw (front, is, back) (later now (drop (len + 2) text) read)
+    rw (take-append-le len text more (omega arith), is, drop-append-le (len + 2) text more within) (later now (drop (len + 2) text) read)
 
 by_line : (o : Head) (n m at : ℕ) (found : Option ℕ) (text more : Bytes) → (o ≡ Partial → ⊥)
     → ((len : ℕ) (now : Option ℕ) (rest : Bytes) → head_from n (at + (len + 2)) now rest ≡ o → head_from m (at + (len + 2)) now (rest ++ more) ≡ o)
@@ -193,9 +179,7 @@ head_from-append (suc n) (suc m) at found text more o room known is =
     by_line o n m at found text more known (λ len now rest read. head_from-append n m (at + (len + 2)) now rest more o (omega arith) known read) (line_len text) refl is
 
 head_of-append : (text more : Bytes) (o : Head) → (o ≡ Partial → ⊥) → head_of text ≡ o → head_of (text ++ more) ≡ o
-head_of-append text more o known is =
-    let room : suc (length text) ≤ suc (length (text ++ more)) = omega (arith, length-append text more) in
-    head_from-append (suc (length text)) (suc (length (text ++ more))) 0 None text more o room known is
+head_of-append text more o known is = head_from-append (suc (length text)) (suc (length (text ++ more))) 0 None text more o (omega (arith, length-append text more)) known is
 
 -- ---- frames at the front of a stream
 
@@ -206,10 +190,8 @@ pub front-whole : (stream head rest : Bytes) (l : ℕ) → IsHead None head l �
     → head_of (front stream) ≡ Whole (length head) l
 front-whole stream head rest l is small e =
     let more = take (most_of_head - length head) rest in
-    let same : front stream ≡ head ++ more = ap front e ∙ take-past_all most_of_head head rest small in
     let room : length head < suc (length (head ++ more)) = omega (arith, length-append head more) in
-    let zero_add : 0 + length head ≡ length head = omega arith in
-    ap head_of same ∙ (head_from-complete is (suc (length (head ++ more))) 0 more room ∙ ap (λ k. Whole k l) zero_add)
+    ap head_of (ap front e ∙ take-past_all most_of_head head rest small) ∙ (head_from-complete is (suc (length (head ++ more))) 0 more room ∙ ap (λ k. Whole k l) (omega arith))
 
 -- a message at the front is at the front of what the head is read from
 frame-whole : (stream frame message rest : Bytes) → IsFrame frame message → stream ≡ frame ++ rest
@@ -239,23 +221,19 @@ no_message stream none more frame message rest is e =
     let (h, whole, fits) = frame-whole (stream ++ more) frame message rest is e in
     elim (cases_lt (length stream) most_of_head) [
       | inl less ↦
-          let all : front stream ≡ stream = take_all most_of_head stream (omega arith) in
-          let longer : front (stream ++ more) ≡ stream ++ take (most_of_head - length stream) more = take-past_all most_of_head stream more (omega arith) in
           let still : head_of (stream ++ take (most_of_head - length stream) more) ≡ Malformed =
-          head_of-append stream (take (most_of_head - length stream) more) Malformed (λ e. cc) (ap head_of (sym all) ∙ none) in
-          let same : Malformed ≡ Whole h (length message) = sym still ∙ (ap head_of (sym longer) ∙ whole) in
+          head_of-append stream (take (most_of_head - length stream) more) Malformed (λ e. cc) (ap head_of (sym (take_all most_of_head stream (omega arith))) ∙ none) in
+          let same : Malformed ≡ Whole h (length message) = sym still ∙ (ap head_of (sym (take-past_all most_of_head stream more (omega arith))) ∙ whole) in
           cc
       | inr enough ↦
-          let longer : front (stream ++ more) ≡ front stream = take-append-le most_of_head stream more enough in
-          let same : Malformed ≡ Whole h (length message) = sym none ∙ (ap head_of (sym longer) ∙ whole) in
+          let same : Malformed ≡ Whole h (length message) = sym none ∙ (ap head_of (sym (take-append-le most_of_head stream more enough)) ∙ whole) in
           cc
     ]
 
 pub no_end : (stream : Bytes) → head_of (front stream) ≡ Partial → most_of_head ≤ length stream → IsMalformed stream
 no_end stream none enough more frame message rest is e =
     let (h, whole, fits) = frame-whole (stream ++ more) frame message rest is e in
-    let longer : front (stream ++ more) ≡ front stream = take-append-le most_of_head stream more enough in
-    let same : Partial ≡ Whole h (length message) = sym none ∙ (ap head_of (sym longer) ∙ whole) in
+    let same : Partial ≡ Whole h (length message) = sym none ∙ (ap head_of (sym (take-append-le most_of_head stream more enough)) ∙ whole) in
     cc
 
 front-length : (stream : Bytes) → (length (front stream) ≤ length stream) × (length (front stream) ≤ most_of_head)
@@ -310,10 +288,8 @@ one-frame frame message other found more rest (head, is, small, e) (head', is', 
     let two : stream ≡ head' ++ (found ++ rest) = same ∙ (ap (λ f. f ++ rest) e' ∙ append_assoc head' found rest) in
     let whole : Whole (length head) (length message) ≡ Whole (length head') (length found) =
     sym (front-whole stream head (message ++ more) (length message) is small one) ∙ front-whole stream head' (found ++ rest) (length found) is' small' two in
-    let heads : length head ≡ length head' = cc in
-    let sizes : length message ≡ length found = cc in
-    let (_, behind) = same_split head head' (message ++ more) (found ++ rest) (sym one ∙ two) heads in
-    let (messages, rests) = same_split message found more rest behind sizes in
+    let (_, behind) = same_split head head' (message ++ more) (found ++ rest) (sym one ∙ two) cc in
+    let (messages, rests) = same_split message found more rest behind cc in
     (sym messages, sym rests)
 
 -- the message at the front was taken
@@ -324,5 +300,4 @@ taken-frame stream seen message rest from to same is is_message is_rest =
     let P : Bytes → Type 0 = λ s. (from ≤ to) × (to ≤ length s) × IsFrame (take to s) (slice_range s from to) in
     let Q : Bytes → Type 0 = λ m. IsFrame (take to stream) m in
     let R : Bytes → Type 0 = λ r. stream ≡ take to stream ++ r in
-    let found = subst P same is in
-    (take to stream, subst Q (sym is_message) found.2, subst R (sym is_rest) (sym (take-append-drop to stream)))
+    (take to stream, subst Q (sym is_message) (subst P same is).2, subst R (sym is_rest) (sym (take-append-drop to stream)))

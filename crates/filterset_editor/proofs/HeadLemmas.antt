@@ -32,9 +32,7 @@ pub line_len-next : (text : Bytes) (at : ℕ) → at < length text
     → line_len text ≡ option_map (λ k. at + k) (line_len (drop at text))
     → line_len text ≡ option_map (λ k. (at + 1) + k) (line_len (drop (at + 1) text))
 line_len-next text at within other here =
-    let less : (get_or text at 0 == 13) && (get_or text (suc at) 0 == 10) ≡ false = ends-false _ _ (rw add-one at other) in
-    let turn : line_len (drop at text) ≡ option_map suc (line_len (drop (suc at) text)) = line_len-turn text at within ∙ rw less refl in
-    here ∙ ap (option_map (λ k. at + k)) turn ∙ moved (line_len (drop (suc at) text)) ∙ rw add-one refl
+    here ∙ ap (option_map (λ k. at + k)) (line_len-turn text at within ∙ rw (ends-false _ _ (rw add-one at other)) refl) ∙ moved (line_len (drop (suc at) text)) ∙ rw add-one refl
   where
     moved : (o : Option ℕ) → option_map (λ k. at + k) (option_map suc o) ≡ option_map (λ k. (at + 1) + k) o
     moved None = refl
@@ -45,10 +43,8 @@ pub line_len-here : (text : Bytes) (at : ℕ) → at < length text
     → line_len text ≡ option_map (λ k. at + k) (line_len (drop at text))
     → Some at ≡ line_len text
 line_len-here text at within this that here =
-    let both : (get_or text at 0 == 13) && (get_or text (suc at) 0 == 10) ≡ true = ends-true _ _ this (rw add-one at that) in
-    let turn : line_len (drop at text) ≡ Some 0 = line_len-turn text at within ∙ rw both refl in
     let sum : at + 0 ≡ at = omega arith in
-    sym (here ∙ rw turn (rw sum refl))
+    sym (here ∙ rw (line_len-turn text at within ∙ rw (ends-true _ _ this (rw add-one at that)) refl) (rw sum refl))
 
 -- the digits one byte later
 pub more_digits-turn : (n : ℕ) (text : Bytes) (at : ℕ) → at < length text
@@ -77,17 +73,12 @@ allowed-large n (b ∷ bs) h = elim (cases_Bool (is_ascii_digit b)) [
 
 pub number-stop : (text : Bytes) (at n : ℕ) → at < length text → is_ascii_digit (get_or text at 0) ≡ false
     → more_digits n (drop at text) ≡ more_digits 0 text → None ≡ allowed (more_digits 0 text)
-number-stop text at n within other read =
-    let turn : more_digits n (drop at text) ≡ None = more_digits-turn n text at within ∙ rw other refl in
-    let none : more_digits 0 text ≡ None = sym read ∙ turn in
-    sym (ap allowed none)
+number-stop text at n within other read = sym (ap allowed (sym read ∙ (more_digits-turn n text at within ∙ rw other refl)))
 
 pub number-next : (text : Bytes) (at n next : ℕ) → at < length text
     → is_ascii_digit (get_or text at 0) ≡ true → next ≡ 10 * n + (get_or text at 0 - 48)
     → more_digits n (drop at text) ≡ more_digits 0 text → more_digits next (drop (at + 1) text) ≡ more_digits 0 text
-number-next text at n next within digit e read =
-    let turn : more_digits n (drop at text) ≡ more_digits (10 * n + (get_or text at 0 - 48)) (drop (suc at) text) = more_digits-turn n text at within ∙ rw digit refl in
-    rw (e, add-one) (sym turn ∙ read)
+number-next text at n next within digit e read = rw (e, add-one) (sym (more_digits-turn n text at within ∙ rw digit refl) ∙ read)
 
 pub number-large : (text rest : Bytes) (next : ℕ) → most_of_message < next → more_digits next rest ≡ more_digits 0 text
     → None ≡ allowed (more_digits 0 text)
@@ -95,9 +86,7 @@ number-large text rest next large read = sym (ap allowed (sym read) ∙ allowed-
 
 pub number-done : (text : Bytes) (at n : ℕ) → length text ≤ at → n ≤ most_of_message
     → more_digits n (drop at text) ≡ more_digits 0 text → Some n ≡ allowed (more_digits 0 text)
-number-done text at n over small read =
-    let all : more_digits 0 text ≡ Some n = sym read ∙ at_drop_all (more_digits n) text at over ∙ more_digits-end n in
-    sym (ap allowed all ∙ allowed-small n small)
+number-done text at n over small read = sym (ap allowed (sym read ∙ at_drop_all (more_digits n) text at over ∙ more_digits-end n) ∙ allowed-small n small)
 
 pub line_len-none : (text : Bytes) (at : ℕ) → length text ≤ at
     → line_len text ≡ option_map (λ k. at + k) (line_len (drop at text)) → None ≡ line_len text

@@ -56,9 +56,8 @@ changes-turn values i value within is =
 pub changes-wrong : (values : List Value) (i : ℕ) (value : Value) (before : List Change) → i < length values → value ≡ get_or values i value
     → change_in (view value) ≡ None → Read values i before → changes_in (items_view values) ≡ None
 changes-wrong values i value before within is wrong read =
-    let rest = changes_in (items_view (drop (i + 1) values)) in
     let none : changes_in (items_view (drop i values)) ≡ None =
-    changes-turn values i value within is ∙ ap (option_and_then (λ c. option_map (λ cs. c ∷ cs) rest)) wrong in
+    changes-turn values i value within is ∙ ap (option_and_then (λ c. option_map (λ cs. c ∷ cs) (changes_in (items_view (drop (i + 1) values))))) wrong in
     read ∙ ap (option_map (λ cs. map change_row before ++ cs)) none
 
 one_more : (before : List ChangeRow) (c : ChangeRow) (o : Option (List ChangeRow))

@@ -24,9 +24,8 @@ Counted encoding total size column rest =
 pub counted-step : (e : Encoding) (total size column units c : ℕ) (bs rest : Text) → bs ≡ encode_utf8 c ++ rest → units ≡ units_of e c
     → units ≤ len_utf8 c → Counted e total size column bs → Counted e total size (column + units) rest
 counted-step e total size column units c bs rest is same small (counted, fits, utf8) =
-    let more : chars bs ≡ c ∷ chars rest = chars_past_char bs rest c utf8 is in
     let sum : sum_by (units_of e) (chars bs) ≡ units_of e c + sum_by (units_of e) (chars rest) =
-    ap (sum_by (units_of e)) more ∙ sum_by-cons (units_of e) c (chars rest) in
+    ap (sum_by (units_of e)) (chars_past_char bs rest c utf8 is) ∙ sum_by-cons (units_of e) c (chars rest) in
     let bytes = bytes-of c bs rest is in
     (omega arith, omega arith, IsUtf8-past_char bs rest c utf8 is)
 
@@ -53,9 +52,7 @@ goes-on : (e : Encoding) (left c : ℕ) (cs : List ℕ) → is_break c ≡ false
     → bytes_before e left (c ∷ cs) ≡ len_utf8 c + bytes_before e (left - units_of e c) cs
 unfolding bytes_before
 goes-on e left c cs other fits =
-    let room : nat_lt left (units_of e c) ≡ false = le_lt (units_of e c) left fits in
-    let test : is_break c || nat_lt left (units_of e c) ≡ false = or_false _ _ other room in
-    rw test refl
+    rw (or_false _ _ other (le_lt (units_of e c) left fits)) refl
   where
     le_lt : (u n : ℕ) → u ≤ n → nat_lt n u ≡ false
     le_lt u n h = grind (arith, nat_tests)
@@ -82,9 +79,8 @@ walked-step e total size bytes left units len c bs rest is same len_is other fit
 pub walked-stop : (e : Encoding) (total size bytes left units c : ℕ) (bs rest : Text) → bs ≡ encode_utf8 c ++ rest → units ≡ units_of e c
     → (is_break c ≡ true) ⊎ (left < units) → Walked e total size bytes left bs → bytes ≡ total
 walked-stop e total size bytes left units c bs rest is same end (walked, all, utf8) =
-    let more : chars bs ≡ c ∷ chars rest = chars_past_char bs rest c utf8 is in
     let P : ℕ → Type 0 = λ n. (is_break c ≡ true) ⊎ (left < n) in
-    let zero_more : bytes_before e left (chars bs) ≡ 0 = ap (bytes_before e left) more ∙ stops e left c (chars rest) (subst P same end) in
+    let zero_more : bytes_before e left (chars bs) ≡ 0 = ap (bytes_before e left) (chars_past_char bs rest c utf8 is) ∙ stops e left c (chars rest) (subst P same end) in
     omega arith
 
 pub walked-end : (e : Encoding) (total size bytes left : ℕ) (rest : Text) → length rest ≡ 0 → Walked e total size bytes left rest
@@ -143,8 +139,7 @@ before-all : (e : Encoding) (cs rest : List ℕ) → AllPass (λ c. not (is_brea
 unfolding bytes_before
 before-all e [] rest none = before-none e rest
 before-all e (c ∷ cs) rest none =
-    let head : not (is_break c) ≡ true = none 0 c (omega arith) in
-    let other : is_break c ≡ false = no c head in
+    let other : is_break c ≡ false = no c (none 0 c (omega arith)) in
     let sum : sum_by (units_of e) (c ∷ cs) ≡ units_of e c + sum_by (units_of e) cs = sum_by-cons (units_of e) c cs in
     let left : units_of e c + sum_by (units_of e) cs - units_of e c ≡ sum_by (units_of e) cs = omega arith in
     let later = before-all e cs rest (λ k d lt. none (suc k) d (omega arith)) in
@@ -162,13 +157,11 @@ pub stands-offset : (e : Encoding) (text : Text) (position : Position) (offset s
     → start + bytes_before e position.character (chars (drop start text)) ≡ offset
 stands-offset e text position offset start utf8 begins is (first, here, order, boundary, none, column) =
     let P : ℕ → Type 0 = λ n. (n ≤ offset) × AllPass (λ c. not (is_break c)) (chars (slice_range text n offset)) × (position.character ≡ column_of e (slice_range text n offset)) in
-    let same : first ≡ start = some_same first start (sym here ∙ is) in
-    let (within, line, columns) = subst P same (order, none, column) in
+    let (within, line, columns) = subst P (some_same first start (sym here ∙ is)) (order, none, column) in
     let part = slice_range text start offset in
     let part_utf8 : IsUtf8 part = IsUtf8-between text start offset utf8 within begins boundary in
     let rest = drop (offset - start) (drop start text) in
-    let parts : drop start text ≡ part ++ rest = sym (take-append-drop (offset - start) (drop start text)) in
-    let cs : chars (drop start text) ≡ chars part ++ chars rest = ap chars parts ∙ chars-append part rest part_utf8 in
+    let cs : chars (drop start text) ≡ chars part ++ chars rest = ap chars (sym (take-append-drop (offset - start) (drop start text))) ∙ chars-append part rest part_utf8 in
     let size : length (encode_utf8_all (chars part)) ≡ length part = ap length (encodes-chars part part_utf8) in
     let left : length (drop start text) ≡ length text - start = length-drop start text in
     let fits = boundary.0 in
@@ -196,12 +189,9 @@ pub starts-step : (text : Text) (at : ℕ) (found all more : List ℕ) → at < 
     → more ++ starts_from (at + 1) (drop (at + 1) text) ≡ all
 starts-step text at found all more within is (inl (ends, added)) =
     let rest = starts_from (at + 1) (drop (at + 1) text) in
-    let turn : starts_from at (drop at text) ≡ (at + 1) ∷ rest = starts-turn text at within ∙ rw ends refl in
-    ap (λ t. t ++ rest) added ∙ (append_assoc found ((at + 1) ∷ []) rest ∙ (ap (λ t. found ++ t) (sym turn) ∙ is))
+    ap (λ t. t ++ rest) added ∙ (append_assoc found ((at + 1) ∷ []) rest ∙ (ap (λ t. found ++ t) (sym (starts-turn text at within ∙ rw ends refl)) ∙ is))
 starts-step text at found all more within is (inr (goes_on, same)) =
-    let rest = starts_from (at + 1) (drop (at + 1) text) in
-    let turn : starts_from at (drop at text) ≡ rest = starts-turn text at within ∙ rw goes_on refl in
-    ap (λ t. t ++ rest) same ∙ (ap (λ t. found ++ t) (sym turn) ∙ is)
+    ap (λ t. t ++ (starts_from (at + 1) (drop (at + 1) text))) same ∙ (ap (λ t. found ++ t) (sym (starts-turn text at within ∙ rw goes_on refl)) ∙ is)
 
 pub starts-none : (text found all : List ℕ) (at : ℕ) → length text ≤ at → found ++ starts_from at (drop at text) ≡ all → found ++ [] ≡ all
 unfolding starts_from
@@ -218,8 +208,7 @@ behind_first : (at b k start : ℕ) (bs : Text) (starts : List ℕ) → ends_lin
     → ((j : ℕ) → slice_get starts j ≡ Some start → Behind (at + 1) bs start) → slice_get ((at + 1) ∷ starts) k ≡ Some start → Behind at (b ∷ bs) start
 behind_first at b zero start bs starts ends later is =
     let place : at + 1 ≡ start = cc in
-    let low : b < 128 = grind (arith, nat_tests) in
-    (0, omega arith, omega arith, low)
+    (0, omega arith, omega arith, grind (arith, nat_tests))
 behind_first at b (suc j) start bs starts ends later is = behind_next at b start bs (later j is)
 
 behind_break : (text : Text) (at k start : ℕ) → slice_get (starts_from at text) k ≡ Some start → Behind at text start
@@ -254,8 +243,7 @@ position-is e text starts line offset column front utf8 indexed within begins la
       | inr end ↦ let Q : Option ℕ → Type 0 = λ o. IfSome o (λ next. offset < next) in subst Q (sym (slice_get_past starts (line + 1) end)) tt
     ] in
     let (here, behind) = subst P indexed (slice_get-get_or starts line 0 within, next) in
-    let boundary = start-boundary text line (get_or starts line 0) utf8 here in
-    (get_or starts line 0, here, begins, behind, counted ∙ ap (column_of e) (is boundary))
+    (get_or starts line 0, here, begins, behind, counted ∙ ap (column_of e) (is (start-boundary text line (get_or starts line 0) utf8 here)))
 
 pub offset-is : (e : Encoding) (text rest : Text) (position : Position) (start offset bytes : ℕ) → IsUtf8 text
     → slice_get (line_starts text) position.line ≡ Some start → (IsCharBoundary text start → rest ≡ drop start text)
@@ -264,8 +252,7 @@ pub offset-is : (e : Encoding) (text rest : Text) (position : Position) (start o
     × ((other : ℕ) → StandsAt e text position other → offset ≡ other)
 offset-is e text rest position start offset bytes utf8 here is walked sum =
     let begins = start-boundary text position.line start utf8 here in
-    let line : rest ≡ drop start text = is begins in
-    let size : bytes ≡ bytes_before e position.character (chars (drop start text)) = walked ∙ ap (λ t. bytes_before e position.character (chars t)) line in
+    let size : bytes ≡ bytes_before e position.character (chars (drop start text)) = walked ∙ ap (λ t. bytes_before e position.character (chars t)) (is begins) in
     let P : Option ℕ → Type 0 = λ o. MatchOption o (offset ≡ length text) (λ start. offset ≡ start + bytes_before e position.character (chars (drop start text))) in
     let value : offset ≡ start + bytes_before e position.character (chars (drop start text)) = sum ∙ ap (λ n. start + n) size in
     let inside = before-boundary e position.character (drop start text) (IsUtf8-drop text start utf8 begins) in

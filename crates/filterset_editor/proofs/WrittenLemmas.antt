@@ -26,8 +26,7 @@ unfolding more_digits
 more_digits-push n v c [] low high read are = let same : n ≡ v = cc in rw (is_digit c low high) (ap (λ k. Some (10 * k + (c - 48))) same)
 more_digits-push n v c (b ∷ bs) low high read (small, large, are) =
     let digit = is_digit b small large in
-    let rest : more_digits (10 * n + (b - 48)) bs ≡ Some v = rw digit at read in
-    rw digit (more_digits-push (10 * n + (b - 48)) v c bs low high rest are)
+    rw digit (more_digits-push (10 * n + (b - 48)) v c bs low high (rw digit at read) are)
 
 -- the digits are those of a number
 abbrev AreOf : ℕ → Bytes → Type 0
@@ -80,12 +79,9 @@ field-line [] n (are, some, read) small = absurd (omega arith)
 field-line (d ∷ ds) n ((low, high, are), some, read) small =
     let full : nat_lt 14 (length (codes "Content-Length: " ++ d ∷ ds)) ≡ true = grind (arith, nat_tests) in
     let ink : is_blank d ≡ false = grind (arith, nat_tests) in
-    let count : prefix_len is_ascii_digit (d ∷ ds) ≡ length (d ∷ ds) = digits-prefix (d ∷ ds) (low, high, are) in
     let more : (length (d ∷ ds) == 0) ≡ false = grind (arith, nat_tests) in
     let fits : nat_le n most_of_message ≡ true = grind (arith, nat_tests) in
-    let rest : drop (length (d ∷ ds)) (d ∷ ds) ≡ [] = drop_all (length (d ∷ ds)) (d ∷ ds) (omega arith) in
-    let all : take (length (d ∷ ds)) (d ∷ ds) ≡ d ∷ ds = take-length (d ∷ ds) in
-    rw (full, ink, count, more, rest, all, read, fits) refl
+    rw (full, ink, digits-prefix (d ∷ ds) (low, high, are), more, drop_all (length (d ∷ ds)) (d ∷ ds) (omega arith), take-length (d ∷ ds), read, fits) refl
 
 pub written-back : (message : Bytes) → length message ≤ most_of_message → ReadsBack (framed message) message
 written-back message small =
@@ -98,8 +94,7 @@ written-back message small =
     let digits : length (decimal n) ≤ 10 = length-decimal-le 10 n (omega arith) (omega arith) (omega arith) in
     let prefix : length (codes "Content-Length: ") ≡ 16 = refl in
     let size : length head ≤ most_of_head = omega (arith, length-append line (13 ∷ 10 ∷ 13 ∷ 10 ∷ []), length-append (codes "Content-Length: ") (decimal n)) in
-    let same : framed message ≡ head ++ message = append_assoc_frame (codes "Content-Length: ") (decimal n) message in
-    let frame : IsFrame (framed message) message = (head, is, size, same) in
+    let frame : IsFrame (framed message) message = (head, is, size, append_assoc_frame (codes "Content-Length: ") (decimal n) message) in
     (frame, λ other found more rest other_is e. one-frame (framed message) message other found more rest frame other_is e)
   where
     append_assoc_frame : (xs ds message : Bytes) → xs ++ (ds ++ (13 ∷ 10 ∷ 13 ∷ 10 ∷ message)) ≡ ((xs ++ ds) ++ 13 ∷ 10 ∷ 13 ∷ 10 ∷ []) ++ message

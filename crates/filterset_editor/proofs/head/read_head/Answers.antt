@@ -12,20 +12,17 @@ returns-in_default-clause-value c =
 pub returns-in-Some-found-clause-value : goal.returns-in-Some-found-clause-value
 returns-in-Some-found-clause-value c =
     let (n, room, read) = c.lines.invariant.read in
-    let here : line_len c.lines.rest.now ≡ Some 0 = sym c.line_len.ensures.value ∙ (c.in-Some.is ∙ ap Some c.if-len-eq0.true) in
-    sym (read ∙ (head_from-ended n _ c.lines.found c.lines.rest.now room here ∙ rw c.in-Some-found.is refl))
+    sym (read ∙ (head_from-ended n _ c.lines.found c.lines.rest.now room (sym c.line_len.ensures.value ∙ (c.in-Some.is ∙ ap Some c.if-len-eq0.true)) ∙ rw c.in-Some-found.is refl))
 
 pub returns-in-None-clause-value : goal.returns-in-None-clause-value
 returns-in-None-clause-value c =
     let (n, room, read) = c.lines.invariant.read in
-    let here : line_len c.lines.rest.now ≡ Some 0 = sym c.line_len.ensures.value ∙ (c.in-Some.is ∙ ap Some c.if-len-eq0.true) in
-    sym (read ∙ (head_from-ended n _ c.lines.found c.lines.rest.now room here ∙ rw c.in-None.is refl))
+    sym (read ∙ (head_from-ended n _ c.lines.found c.lines.rest.now room (sym c.line_len.ensures.value ∙ (c.in-Some.is ∙ ap Some c.if-len-eq0.true)) ∙ rw c.in-None.is refl))
 
 pub returns-in-None-behind_line-clause-value : goal.returns-in-None-behind_line-clause-value
 returns-in-None-behind_line-clause-value c =
     let (n, room, read) = c.lines.invariant.read in
-    let some : 0 < c.in-Some.len = omega arith in
-    read-fault n _ c.in-Some.len c.lines.found c.lines.rest.now _ room (sym c.line_len.ensures.value ∙ c.in-Some.is) some
+    read-fault n _ c.in-Some.len c.lines.found c.lines.rest.now _ room (sym c.line_len.ensures.value ∙ c.in-Some.is) (omega arith)
     (grind (arith, common_steps)) read
 
 pub lines-preserved : goal.lines-preserved

@@ -9,15 +9,13 @@ loop-value-init c = changes-none c.args.values.now c.new-changes.result.items c.
 
 pub returns-in_default : goal.returns-in_default
 returns-in_default c =
-    let wrong : change_in (view c.value-item.result) ≡ None = sym c.in_ok-change.ensures ∙ ap (option_map change_row) c.in_default.is in
     sym (changes-wrong c.args.values.now c.loop-value.value-index c.value-item.result c.loop-value.changes.items c.loop-value-test.true c.value-item.is
-    wrong c.loop-value.invariant)
+    (sym c.in_ok-change.ensures ∙ ap (option_map change_row) c.in_default.is) c.loop-value.invariant)
 
 pub loop-value-preserved : goal.loop-value-preserved
 loop-value-preserved c =
-    let found : change_in (view c.value-item.result) ≡ Some (change_row c.in-Some.change) = sym c.in_ok-change.ensures ∙ ap (option_map change_row) c.in-Some.is in
     changes-next c.args.values.now c.loop-value.value-index c.value-item.result c.loop-value.changes.items c.push.new.self.items c.in-Some.change
-    c.loop-value-test.true c.value-item.is found c.in_ok-push.ensures.items c.loop-value.invariant
+    c.loop-value-test.true c.value-item.is (sym c.in_ok-change.ensures ∙ ap (option_map change_row) c.in-Some.is) c.in_ok-push.ensures.items c.loop-value.invariant
 
 pub returns : goal.returns
 returns c = sym (changes-all c.args.values.now c.loop-value.value-index c.loop-value.changes.items c.loop-value-test.false c.loop-value.invariant)

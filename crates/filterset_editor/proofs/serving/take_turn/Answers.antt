@@ -16,11 +16,10 @@ returns-in_ok-write_all-in-Message-clause-goes_on g c =
     let (frame, is, front) =
     taken-frame stream c.as_slice.result.now (slice_range stream from to) c.drop_front.new.stream.items from to c.as_slice.ensures.value
     c.in-Message.ensures refl c.drop_front.ensures in
-    let exchange = rw c.deref.ensures.value at c.in_ok-written-in-Message.ensures in
     let appends = rw c.as_bytes.ensures.value at c.in_ok-write_all-in-Message.ensures.whole in
     λ left taken serving.
     serving-answered (g.L.Language.says c.args.language.now) left _ taken _ _ (state_of c.args.server.now) _ stream frame (slice_range stream from to)
-    c.drop_front.new.stream.items _ serving is front exchange appends
+    c.drop_front.new.stream.items _ serving is front (rw c.deref.ensures.value at c.in_ok-written-in-Message.ensures) appends
 
 pub returns-in_ok-write_all-in-Message-clause-ends : goal.returns-in_ok-write_all-in-Message-clause-ends
 returns-in_ok-write_all-in-Message-clause-ends g c = c.ending_of.ensures.in_phase c.drop_front.new.stream.items
@@ -36,9 +35,8 @@ returns-then-branch-clause-goes_on g c =
 
 pub returns-else-branch-clause-ends : goal.returns-else-branch-clause-ends
 returns-else-branch-clause-ends g c =
-    let stream = c.args.waiting.now.items in
     let (same, at_end) =
-    read-all (g.R.Source.left c.args.input.now) (g.R.Source.left c.read_piece.new.input) stream c.read_piece.new.read.items
+    read-all (g.R.Source.left c.args.input.now) (g.R.Source.left c.read_piece.new.input) c.args.waiting.now.items c.read_piece.new.read.items
     c.in_ok-read_piece-in-Partial.field-0 c.if-branch.false c.in_ok-read_piece-in-Partial.ensures.piece in
     let (partial, coming) = rw c.as_slice.ensures.value at c.in-Partial.ensures in
     subst IsPartial (sym same) partial
