@@ -1,8 +1,8 @@
 -- Sessions of which a part was read before, and faults that are shown in them.
 use Rattle.std.proofs.Common.{◌≡◌, Bool, Option, None, Some, inl, refl, subst, sym}
 use Rattle.std.specs.{Prelude.IsTrue, Io.KnownBytes.Consumes, Io.KnownBytes.prepend_known, declared.io.Error.Error}
-use Rattle.filterset_drawing.specs.Columns.{Text}
-use Rattle.filterset_editor.specs.{Frames.Bytes, Machine.Says, Sessions.Served, declared.ending.Ending.Ending}
+use Rattle.filterset_display.specs.Columns.{Text}
+use Rattle.filterset_display.specs.{Frames.Bytes, Machine.Says, Sessions.Served, declared.ending.Ending.Ending}
 use Rattle.filterset_loading.proofs.FaultLemmas.{OrMemory-weaker}
 use Rattle.filterset_loading.specs.Files.{OrMemory}
 use Rattle.filterset_loading.specs.declared.fault.CommandFault.{CommandFault, TheVariants.Run}

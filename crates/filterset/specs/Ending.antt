@@ -2,8 +2,8 @@
 use Rattle.std.specs.Prelude.{ℕ, true, false, Result, Ok, Err}
 use Rattle.filterset_entries.specs.declared.text.Ending.{Ending}
 use Rattle.filterset_entries.specs.declared.text.Ending.TheVariants.{Fine, Faulty, Differing, Unknown}
-use Rattle.filterset_editor.specs.declared.ending.Ending.{Ending as SessionEnding}
-use Rattle.filterset_editor.specs.declared.ending.Ending.TheVariants.{Exit, InputEnded, Malformed}
+use Rattle.filterset_display.specs.declared.ending.Ending.{Ending as SessionEnding}
+use Rattle.filterset_display.specs.declared.ending.Ending.TheVariants.{Exit, InputEnded, Malformed}
 use Rattle.filterset.specs.declared.ending.Ended.{Ended, TheVariants.Answered, TheVariants.Served}
 use Rattle.filterset_loading.specs.declared.fault.CommandFault.{CommandFault}
 use Rattle.filterset_loading.specs.declared.fault.CommandFault.TheVariants.{File, Run, Unwritten}

@@ -5,7 +5,7 @@ use Rattle.clap.specs.declared.error.kind.ErrorKind.{ErrorKind, TheVariants.Disp
 use Rattle.filterset_asking.specs.Formatted.{FormatsTexts, SimplifiesTexts}
 use Rattle.filterset_entries.specs.{Checked.TextRow, Endings.ending_of, Entries.line_rows, Entries.numbered_rows}
 use Rattle.filterset_entries.specs.declared.text.Ending.{Ending, TheVariants.Fine}
-use Rattle.filterset_drawing.specs.{Columns.Text, declared.source.Source.Source}
+use Rattle.filterset_display.specs.{Columns.Text, declared.source.Source.Source}
 use Rattle.filterset_faults.specs.declared.kind.FiltersetKind.{FiltersetKind}
 use Rattle.filterset_faults.specs.declared.kind.FiltersetKind.TheVariants as kinds
 use Rattle.filterset_json.specs.Runs.{AreLeft}

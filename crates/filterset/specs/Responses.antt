@@ -1,10 +1,10 @@
 -- What the server answers about documents.
 use Rattle.std.specs.Prelude.{◌≡◌, ◌⊎◌, Option}
 use Rattle.serde_json.specs.Data.{Data, null}
-use Rattle.filterset_editor.specs.{Documents.DocumentRow, Machine.Says, Positions.Text}
-use Rattle.filterset_editor.specs.declared.inquiry.Inquiry.{Inquiry}
-use Rattle.filterset_editor.specs.declared.inquiry.Inquiry.TheVariants.{CodeActions, Completion, FoldingRanges, Formatting, Hover, SemanticTokens, Symbols}
-use Rattle.filterset_editor.specs.declared.positions.Encoding.{Encoding}
+use Rattle.filterset_display.specs.{Documents.DocumentRow, Machine.Says, Positions.Text}
+use Rattle.filterset_display.specs.declared.inquiry.Inquiry.{Inquiry}
+use Rattle.filterset_display.specs.declared.inquiry.Inquiry.TheVariants.{CodeActions, Completion, FoldingRanges, Formatting, Hover, SemanticTokens, Symbols}
+use Rattle.filterset_display.specs.declared.positions.Encoding.{Encoding}
 use Rattle.filterset_server.specs.Actions.{ActsOn}
 use Rattle.filterset_documents.specs.{Contents.ContentRow, Contents.Holds, Contents.HoldsNothing, Filtersets.is_list}
 use Rattle.filterset_names.specs.Workspaces.{WorkspaceRow}

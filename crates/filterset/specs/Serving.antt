@@ -2,9 +2,9 @@
 use Rattle.std.specs.Prelude.{◌≡◌, ◌⊎◌, ◌||◌, Bool, IsTrue, false, true, [], Option, None, Some, codes, option_and_then, if◌then◌else◌}
 use Rattle.std.specs.{Io.KnownBytes.Appends, declared.io.Error.Error}
 use Rattle.serde_json.specs.{Data.Data, Data.null, Find.as_str, Find.get}
-use Rattle.filterset_drawing.specs.Columns.{Text}
-use Rattle.filterset_editor.specs.{Frames.Bytes, Openings.IsOpening, Openings.shown_data, Sessions.Served}
-use Rattle.filterset_editor.specs.{Written.Writes, declared.ending.Ending.Ending}
+use Rattle.filterset_display.specs.Columns.{Text}
+use Rattle.filterset_display.specs.{Frames.Bytes, Openings.IsOpening, Openings.shown_data, Sessions.Served}
+use Rattle.filterset_display.specs.{Written.Writes, declared.ending.Ending.Ending}
 use Rattle.filterset_json.specs.declared.fault.RunFault.TheVariants.{Read, Write}
 use Rattle.filterset_names.specs.Workspaces.{WorkspaceRow}
 use Rattle.filterset_sources.specs.declared.list.RunIgnored.TheVariants.{All}

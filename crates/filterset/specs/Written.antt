@@ -2,7 +2,7 @@
 use Rattle.std.specs.Prelude.{◌≡◌, ◌++◌, ◌<◌, Bool, true, false, Option, length}
 use Rattle.std.specs.Io.KnownBytes.{Appends}
 use Rattle.filterset_entries.specs.declared.text.Ending.{Ending, TheVariants.Faulty}
-use Rattle.filterset_drawing.specs.Columns.{Text}
+use Rattle.filterset_display.specs.Columns.{Text}
 use Rattle.filterset_loading.specs.declared.request.Request.{Request, TheVariants.Check}
 
 -- the answer has faults that keep the command from doing what it is asked for; the faults that `check` finds do not

@@ -2,7 +2,7 @@
 ghost use Rattle.std.specs.Prelude.{◌≡◌};
 ghost use Rattle.filterset.specs.Ending.{answer_status, file_status, session_status, status_of};
 
-use filterset_editor::Ending as SessionEnding;
+use filterset_display::Ending as SessionEnding;
 use filterset_entries::Ending;
 use filterset_loading::{CommandFault, FileFault};
 

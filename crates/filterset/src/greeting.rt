@@ -4,7 +4,7 @@ ghost use Rattle.serde_json.specs.{Find.get, View.view};
 ghost use Rattle.filterset.specs.Serving as spec;
 ghost use Rattle.filterset.specs.Serving.{Greets, GreetsFrom, IsRunFault, named_row, paths_in, paths_of, row_of};
 
-use filterset_editor::show_error;
+use filterset_display::show_error;
 use filterset_loading::{CommandFault, FileSource, Workspace, WorkspacePaths, read_workspace};
 use filterset_sources::RunIgnored;
 use serde_json::Value;

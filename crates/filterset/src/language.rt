@@ -7,8 +7,8 @@ ghost use Rattle.filterset_names.specs.Workspaces.{known_of};
 ghost use Rattle.filterset_server.specs.Unmatched.{DiagnosesContentIn};
 ghost use Rattle.filterset.specs.Responses.{RespondsContent};
 
+use filterset_display::{Document, Encoding, Inquiry, Language, Lines};
 use filterset_documents::{Content, OpenDocument, Shown, diagnose_entries, diagnose_refusal};
-use filterset_editor::{Document, Encoding, Inquiry, Language, Lines};
 use filterset_entries::TextEntry;
 use filterset_names::Workspace;
 use filterset_offers::complete_entries;

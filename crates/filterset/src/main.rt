@@ -16,7 +16,7 @@ mod texts;
 
 use command_line::CommandLine;
 use ending::{Ended, status};
-use filterset_editor::Ending as SessionEnding;
+use filterset_display::Ending as SessionEnding;
 use filterset_entries::Ending;
 use filterset_json::{FromReader, RunFault, ToWriter};
 use filterset_loading::{

@@ -1,6 +1,6 @@
 //! A run: from a request to its answer, written out.
 ghost use Rattle.std.specs.Prelude.{◌≡◌, ◌||◌, IfErr, IfOk, IsTrue, false, true};
-ghost use Rattle.filterset_drawing.specs.Columns.{Text};
+ghost use Rattle.filterset_display.specs.Columns.{Text};
 ghost use Rattle.filterset_loading.specs.Files.{OrMemory};
 ghost use Rattle.filterset.specs.{Requests.IsAnswered, Requests.IsFaultOf, Written.AppendsPart, Written.is_refusal};
 

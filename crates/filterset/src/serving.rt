@@ -7,7 +7,7 @@ ghost use Rattle.filterset_loading.specs.Files.{OrMemory};
 
 use crate::greeting::greet;
 use crate::language::FiltersetLanguage;
-use filterset_editor::{Ending, read_opening, serve};
+use filterset_display::{Ending, read_opening, serve};
 use filterset_json::{Sink, Source, write_all};
 use filterset_loading::{CommandFault, FileSource, Workspace, WorkspacePaths, read_workspace};
 use filterset_names::Workspace as KnownWorkspace;

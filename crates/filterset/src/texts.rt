@@ -7,7 +7,7 @@ ghost use Rattle.filterset_loading.specs.Files.{OrMemory};
 ghost use Rattle.filterset.specs.Requests.{IsInputFile, rows_of};
 
 use filterset_asking::{check_texts, format_texts, simplify_texts};
-use filterset_drawing::{Form, Source};
+use filterset_display::{Form, Source};
 use filterset_entries::{Answer, TextEntry, given_entries, line_entries};
 use filterset_loading::{CheckPaths, CommandFault, FileSource, INPUT_NAME, Texts};
 use nextest_filtering::FiltersetKind;

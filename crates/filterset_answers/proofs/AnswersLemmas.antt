@@ -3,7 +3,7 @@ use Rattle.std.proofs.Common.{◌≡◌, ◌≢◌, ℕ, suc, Bool, add-zero, ar
 use Rattle.std.proofs.Math.Dec.{eqb-suc-zero}
 use Rattle.std.proofs.lemmas.List.{append-nil, length-map, length-take-le}
 use Rattle.std.specs.Prelude.{◌==◌, if◌then◌else◌}
-use Rattle.filterset_drawing.specs.{Columns.Text, Remarks.RemarkRow, Remarks.fault_remark, declared.remark.Form.Form}
+use Rattle.filterset_display.specs.{Columns.Text, Remarks.RemarkRow, Remarks.fault_remark, declared.remark.Form.Form}
 use Rattle.filterset_faults.specs.declared.error.ParseSingleError.{ParseSingleError}
 use Rattle.filterset_answers.specs.Answers.{FaultsOf, no_texts, next_text, TextFaults, has_some}
 use Rattle.filterset_entries.specs.Checked.{TextRow}

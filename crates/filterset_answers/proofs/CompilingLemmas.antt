@@ -3,7 +3,7 @@ use Rattle.std.proofs.Common.{◌≡◌, ◌≢◌, ℕ, arith, ◌+◌, List, [
 use Rattle.std.specs.Prelude.{Option, Some, None, is_none, option_map, option_to_list, if◌then◌else◌}
 use Rattle.std.specs.List.{AllZip, cons_option, filter_map}
 use Rattle.filterset_json.specs.Pieces.{no_pieces}
-use Rattle.filterset_drawing.specs.{Columns.Text, Remarks.RemarkRow}
+use Rattle.filterset_display.specs.{Columns.Text, Remarks.RemarkRow}
 use Rattle.filterset_rewriting.specs.declared.reading.TextRefusal.{TextRefusal, TheVariants.Found, TheVariants.TooDeep}
 use Rattle.filterset_faults.specs.declared.{error.ParseSingleError.ParseSingleError, kind.FiltersetKind.FiltersetKind}
 use Rattle.filterset_graph.specs.declared.package.PackageMetadata.{PackageMetadata}

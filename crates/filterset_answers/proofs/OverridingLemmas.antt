@@ -2,7 +2,7 @@
 use Rattle.std.proofs.Common.{◌≡◌, All, List, [], ◌∷◌, Option, Some, None, String, Global, ap, filter, map, refl, string_bytes, subst, sym}
 use Rattle.std.specs.{Prelude.MatchOption, Prelude.cond, Prelude.is_some, Prelude.option_map, Borrow.Bor, List.AllZip}
 use Rattle.std.proofs.lemmas.List.Elements.{All-cons, All-nil}
-use Rattle.filterset_drawing.specs.Columns.{Text}
+use Rattle.filterset_display.specs.Columns.{Text}
 use Rattle.filterset_expression.specs.Meaning.{IsCompiled}
 use Rattle.filterset_expression.specs.declared.{expression.CompiledExpr.CompiledExpr, query.TestQuery.TestQuery}
 use Rattle.filterset_faults.specs.declared.span.SourceSpan.{SourceSpan}

@@ -1,7 +1,7 @@
 -- What `check` writes about texts.
 use Rattle.std.specs.Prelude.{◌≡◌, ◌==◌, ◌++◌, Bool, true, false, ℕ, suc, ◌+◌, List, [], ◌∷◌, codes, decimal, length, if◌then◌else◌}
-use Rattle.filterset_drawing.specs.{Columns.Text, Remarks.RemarkRow}
-use Rattle.filterset_drawing.specs.declared.remark.Form.{Form, TheVariants.Drawn}
+use Rattle.filterset_display.specs.{Columns.Text, Remarks.RemarkRow}
+use Rattle.filterset_display.specs.declared.remark.Form.{Form, TheVariants.Drawn}
 use Rattle.filterset_entries.specs.{Checked.HasFaults, Checked.TextRow, Forms.FaultPieces, declared.names.Names.Names}
 
 -- ---- faults

@@ -1,7 +1,7 @@
 -- Which filtersets texts spell, or which faults they have.
 use Rattle.std.specs.Prelude.{◌≡◌, ◌≢◌, ◌⊎◌, ◌++◌, ℕ, List, [], filter, length, Bool, true, false, Option, Some, None, is_some, option_map, string_bytes}
 use Rattle.std.specs.{Borrow.Bor, List.AllZip}
-use Rattle.filterset_drawing.specs.{Columns.Text, declared.remark.Form.Form}
+use Rattle.filterset_display.specs.{Columns.Text, declared.remark.Form.Form}
 use Rattle.filterset_expression.specs.{Meaning.IsCompiled, declared.expression.CompiledExpr.CompiledExpr}
 use Rattle.filterset_faults.specs.declared.span.SourceSpan.{SourceSpan}
 use Rattle.filterset_graph.specs.declared.package.PackageMetadata.{PackageMetadata}

@@ -1,6 +1,6 @@
 -- What `explain` writes.
 use Rattle.std.specs.Prelude.{◌≡◌, ◌++◌, Bool, [], ◌∷◌, codes, if◌then◌else◌, is_some}
-use Rattle.filterset_drawing.specs.{Columns.Text, declared.remark.Form.Form}
+use Rattle.filterset_display.specs.{Columns.Text, declared.remark.Form.Form}
 use Rattle.filterset_faults.specs.declared.span.SourceSpan.{SourceSpan}
 use Rattle.filterset_grammar.specs.Tree.{Tree}
 use Rattle.filterset_listing.specs.{Explaining.IsExplanation, ExplanationText.explanation_text}

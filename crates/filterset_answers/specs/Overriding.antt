@@ -1,7 +1,7 @@
 -- What `overrides` writes.
 use Rattle.std.specs.Prelude.{◌≡◌, ◌==◌, ◌||◌, Bool, true, List, [], ◌++◌, Option, Some, None, codes, is_none, length, not}
 use Rattle.std.specs.List.{AllZip, count_by, list_any, sum_by}
-use Rattle.filterset_drawing.specs.{Columns.Text, declared.remark.Form.Form}
+use Rattle.filterset_display.specs.{Columns.Text, declared.remark.Form.Form}
 use Rattle.filterset_expression.specs.declared.{expression.CompiledExpr.CompiledExpr, query.TestQuery.TestQuery}
 use Rattle.filterset_faults.specs.declared.span.SourceSpan.{SourceSpan}
 use Rattle.filterset_grammar.specs.Tree.{Tree}

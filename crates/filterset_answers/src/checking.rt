@@ -1,11 +1,11 @@
 //! The faults of texts.
 ghost use Rattle.std.specs.Prelude.{◌≡◌, ◌++◌, IfOk, OnOk, [], codes, if◌then◌else◌, ℕ, map, string_bytes};
-ghost use Rattle.filterset_drawing.specs.{Columns.Text, Remarks.remark_row};
+ghost use Rattle.filterset_display.specs.{Columns.Text, Remarks.remark_row};
 ghost use Rattle.nextest_filtering.specs.Groups.{IsKnown};
 ghost use Rattle.filterset_answers.specs.Answers.{ChecksTexts, FaultsOf, TextFaults, counts_text, has_some, summary};
 ghost use Rattle.filterset_entries.specs.{Checked.HasFaults, Checked.text_row, Endings.ending_of};
 
-use filterset_drawing::{Form, Remark};
+use filterset_display::{Form, Remark};
 use filterset_entries::{Answer, Names, TextEntry, ending_of, faults_of, push_faults};
 use std::alloc::{AllocError, Global};
 use std::fmt::Write;

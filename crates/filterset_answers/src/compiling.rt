@@ -1,12 +1,12 @@
 //! Texts as the filtersets that they spell.
 ghost use Rattle.std.specs.Prelude.{◌≡◌, ◌++◌, ◌∷◌, [], IfOk, OnOk, filter_map, map, option_to_list, string_bytes};
 ghost use Rattle.std.specs.List.{AllZip};
-ghost use Rattle.filterset_drawing.specs.Columns.{Text};
+ghost use Rattle.filterset_display.specs.Columns.{Text};
 ghost use Rattle.nextest_filtering.specs.Groups.{IsKnown};
 ghost use Rattle.filterset_entries.specs.{Checked.text_row, Entries.filter_row};
 ghost use Rattle.filterset_answers.specs.Compiled.{AreCompiled, Compiles, CompilesAll, HasMade, IsFilter, IsMade, IsParsedAs};
 
-use filterset_drawing::Form;
+use filterset_display::Form;
 use filterset_entries::{
     OverrideEntry, Setting, TextEntry, fault_remarks, parse_entry, push_faults,
 };

@@ -14,7 +14,7 @@ ghost use Rattle.filterset_answers.specs.Explained.{AnswersExplanation, Explains
 
 use crate::compiling::{CompiledTexts, QuestionFiltersets, compile_texts};
 use crate::grouping::group_overrides;
-use filterset_drawing::Form;
+use filterset_display::Form;
 use filterset_entries::{Answer, Ending, Setting, entry_of, unknown_ending};
 use filterset_listing::{Candidate, GroupOverride, explain, explain_text};
 use nextest_filtering::{EvalContext, Filterset, FiltersetKind};

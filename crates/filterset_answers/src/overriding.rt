@@ -17,7 +17,7 @@ ghost use Rattle.filterset_entries.specs.declared.setting.Setting as settings;
 use crate::compiling::{CompiledTexts, QuestionFiltersets, compile_texts};
 use crate::grouping::asked_overrides;
 use crate::picks::{expressions_of, picks_of};
-use filterset_drawing::Form;
+use filterset_display::Form;
 use filterset_entries::{Answer, Ending, Setting, unknown_ending};
 use filterset_listing::{
     AskedBinary, BinaryPicks, Candidate, GroupOverride, explain, explain_text, lists_unknown,

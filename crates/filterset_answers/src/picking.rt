@@ -17,7 +17,7 @@ use crate::compiling::{CompiledTexts, QuestionFiltersets, compile_texts};
 use crate::grouping::{asked_overrides, group_overrides};
 use crate::overriding::answer_overrides;
 use crate::picks::{copy_expressions, expressions_of, picks_of};
-use filterset_drawing::Form;
+use filterset_display::Form;
 use filterset_entries::{
     Answer, Ending, Question, Setting, differing_ending, question_entries, unknown_ending,
 };

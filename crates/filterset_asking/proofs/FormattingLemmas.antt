@@ -2,13 +2,13 @@
 use Rattle.std.proofs.Common.{◌≡◌, ◌≢◌, ◌+◌, ℕ, Bool, arith, List, [], ◌∷◌, ◌++◌, ◌∙◌, subst, sym, refl, true, false}
 use Rattle.filterset_json.specs.Pieces.{Pieces}
 use Rattle.filterset_json.proofs.PieceLemmas.{Pieces-push}
-use Rattle.filterset_drawing.specs.Columns.{Text}
+use Rattle.filterset_display.specs.Columns.{Text}
 use Rattle.filterset_answers.proofs.AnswersLemmas.{one_if, some_is}
 use Rattle.filterset_answers.specs.Answers.{FaultsOf, has_some}
 use Rattle.filterset_asking.specs.Formatted.{RewritesTexts, FormattedLine, FormattedPart}
 use Rattle.filterset_asking.specs.declared.formatting.Rewriting.{Rewriting}
 use Rattle.filterset_entries.specs.Checked.{HasReadingFaults, TextRow, all_remarks}
-use Rattle.filterset_drawing.specs.declared.remark.Form.{Form}
+use Rattle.filterset_display.specs.declared.remark.Form.{Form}
 use Rattle.filterset_rewriting.specs.Reading.{IsUnreadFor}
 use Rattle.filterset_rewriting.specs.declared.reading.TextRefusal.{TextRefusal, TheVariants.Found, TheVariants.TooDeep}
 

@@ -2,7 +2,7 @@
 use Rattle.std.proofs.Common.{◌≡◌, ℕ, suc, add-zero, arith, ◌+◌, List, [], ◌∷◌, ◌++◌, length, sym, subst, append_assoc}
 use Rattle.std.proofs.lemmas.List.{append-nil}
 use Rattle.filterset_entries.specs.Checked.{TextRow}
-use Rattle.filterset_drawing.specs.{declared.remark.Form.Form, Columns.Text}
+use Rattle.filterset_display.specs.{declared.remark.Form.Form, Columns.Text}
 use Rattle.filterset_listing.specs.{SubjectValues.Basis, declared.subjects.Subject.Subject}
 use Rattle.nextest_filtering.specs.declared.compile.context.KnownGroups.{KnownGroups}
 use Rattle.filterset_asking.specs.Warnings.{TextWarnings, WarningsOf, no_texts, next_text}

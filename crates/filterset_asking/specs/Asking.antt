@@ -9,7 +9,7 @@ use Rattle.filterset_entries.specs.Profile.{IsEntryOf, IsProfileOf, chosen}
 use Rattle.filterset_entries.specs.declared.entries.ConfiguredTexts.{ConfiguredTexts}
 use Rattle.filterset_entries.specs.declared.setting.{OverrideEntry.OverrideEntry, Setting.Setting}
 use Rattle.filterset_entries.specs.declared.text.{Ending.Ending, TextEntry.TextEntry}
-use Rattle.filterset_drawing.specs.{declared.remark.Form.Form, declared.remark.Form.TheVariants.Json, Columns.Text}
+use Rattle.filterset_display.specs.{declared.remark.Form.Form, declared.remark.Form.TheVariants.Json, Columns.Text}
 use Rattle.filterset_faults.specs.declared.kind.FiltersetKind.TheVariants.{DefaultFilter}
 use Rattle.filterset_graph.specs.declared.package.PackageMetadata.{PackageMetadata}
 use Rattle.filterset_listing.specs.declared.{binary.AskedBinary.AskedBinary, explaining.candidate.Candidate.Candidate}

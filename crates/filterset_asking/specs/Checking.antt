@@ -5,7 +5,7 @@ use Rattle.filterset_answers.specs.Answers.{ChecksTexts}
 use Rattle.filterset_entries.specs.{Checked.TextRow, Endings.ending_of, Entries.rows_in, Entries.AreTextsOf}
 use Rattle.filterset_entries.specs.{Names.KnowsNames, declared.entries.ConfiguredTexts.ConfiguredTexts}
 use Rattle.filterset_entries.specs.declared.{names.Names.Names, text.Ending.Ending}
-use Rattle.filterset_drawing.specs.{declared.remark.Form.Form, Columns.Text, declared.source.Source.Source}
+use Rattle.filterset_display.specs.{declared.remark.Form.Form, Columns.Text, declared.source.Source.Source}
 use Rattle.filterset_json.specs.Pieces.{Pieces}
 use Rattle.filterset_graph.specs.declared.package.PackageMetadata.{PackageMetadata}
 use Rattle.filterset_configuration.specs.declared.{place.Place.Place, places.Places.Places}

@@ -2,8 +2,8 @@
 use Rattle.std.specs.{Prelude.◌≡◌, Prelude.ℕ, Prelude.List, Prelude.None, Prelude.Some, Prelude.length, Borrow.Bor}
 use Rattle.filterset_entries.specs.{Entries.rows_in, Forms.IsWritten, Forms.Writing, Forms.writing, Placements.line}
 use Rattle.filterset_entries.specs.{Unread.AreUnreadRemarks, declared.entries.ConfiguredTexts.ConfiguredTexts}
-use Rattle.filterset_drawing.specs.{declared.remark.Form.Form, Columns.Text, Remarks.RemarkRow}
-use Rattle.filterset_drawing.specs.declared.source.Source.{Source}
+use Rattle.filterset_display.specs.{declared.remark.Form.Form, Columns.Text, Remarks.RemarkRow}
+use Rattle.filterset_display.specs.declared.source.Source.{Source}
 use Rattle.filterset_json.specs.Pieces.{Pieces}
 
 -- what nextest does not read of a configuration, and how many remarks on that are written

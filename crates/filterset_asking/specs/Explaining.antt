@@ -1,7 +1,7 @@
 -- Which binary or test `explain` is about.
 use Rattle.std.specs.Prelude.{◌≡◌, Bool, false, List, Option, Some, None, find, is_some, option_and_then, option_map, string_bytes}
 use Rattle.std.specs.{Option.option_or, Borrow.Bor, Str.bytes_eq}
-use Rattle.filterset_drawing.specs.Columns.{Text}
+use Rattle.filterset_display.specs.Columns.{Text}
 use Rattle.filterset_listing.specs.declared.{binary.AskedBinary.AskedBinary, explaining.candidate.Candidate.Candidate}
 use Rattle.filterset_listing.specs.declared.explaining.candidate.Candidate.TheVariants.{Binary, Test}
 use Rattle.filterset_loading.specs.declared.fault.CommandFault.{CommandFault, TheVariants.NoBinary, TheVariants.NoTest}

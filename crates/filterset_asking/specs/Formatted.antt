@@ -1,10 +1,10 @@
 -- What `format` and `simplify` write about texts.
 use Rattle.std.specs.Prelude.{◌≡◌, ◌≢◌, ◌++◌, Bool, true, false, ℕ, List, [], codes}
-use Rattle.filterset_drawing.specs.Columns.{Text}
+use Rattle.filterset_display.specs.Columns.{Text}
 use Rattle.filterset_faults.specs.declared.span.SourceSpan.{SourceSpan}
 use Rattle.filterset_grammar.specs.{Printing.printed, Tree.Tree}
 use Rattle.filterset_json.specs.Pieces.{Pieces}
-use Rattle.filterset_drawing.specs.declared.remark.Form.{Form}
+use Rattle.filterset_display.specs.declared.remark.Form.{Form}
 use Rattle.filterset_entries.specs.Checked.{HasReadingFaults, TextRow}
 use Rattle.filterset_answers.specs.Answers.{FaultsOf}
 use Rattle.filterset_deciding.specs.Simplifying.Simplified.{IsSimplified}

@@ -4,7 +4,7 @@ use Rattle.std.specs.Borrow.{Bor}
 use Rattle.filterset_answers.specs.{Overriding.AnswersOverrides, Picking.AnswersQuestion}
 use Rattle.filterset_entries.specs.declared.{question.Question.TheVariants.Overrides, setting.Setting.Setting}
 use Rattle.filterset_entries.specs.declared.text.Ending.{Ending}
-use Rattle.filterset_drawing.specs.{declared.remark.Form.Form, Columns.Text}
+use Rattle.filterset_display.specs.{declared.remark.Form.Form, Columns.Text}
 use Rattle.filterset_expression.specs.declared.query.TestQuery.{TestQuery}
 use Rattle.filterset_listing.specs.declared.binary.AskedBinary.{AskedBinary}
 use Rattle.filterset_listing.specs.declared.explaining.candidate.Candidate.TheVariants.{Test}

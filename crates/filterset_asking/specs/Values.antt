@@ -2,8 +2,8 @@
 use Rattle.std.specs.Prelude.{◌++◌, Option, None, codes, length, option_map, string_bytes}
 use Rattle.std.specs.Borrow.{Bor}
 use Rattle.filterset_entries.specs.{Forms.IsWritten, Forms.writing, Placements.Placement, Placements.literal}
-use Rattle.filterset_drawing.specs.{declared.remark.Form.Form, Columns.Text, Remarks.RemarkRow, Remarks.said}
-use Rattle.filterset_drawing.specs.declared.{remark.Severity.TheVariants.Error, source.Source.Source}
+use Rattle.filterset_display.specs.{declared.remark.Form.Form, Columns.Text, Remarks.RemarkRow, Remarks.said}
+use Rattle.filterset_display.specs.declared.{remark.Severity.TheVariants.Error, source.Source.Source}
 use Rattle.filterset_faults.specs.Span.{span}
 use Rattle.filterset_configuration.specs.declared.wrong.WrongValue.{WrongValue}
 

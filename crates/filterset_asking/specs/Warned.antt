@@ -6,7 +6,7 @@ use Rattle.filterset_answers.specs.Binaries.{IsAsked}
 use Rattle.filterset_entries.specs.Checked.{TextRow}
 use Rattle.filterset_entries.specs.declared.{entries.ConfiguredTexts.ConfiguredTexts, setting.Setting.Setting}
 use Rattle.filterset_entries.specs.declared.text.{Ending.Ending, Ending.TheVariants.Fine, WarningEnd.WarningEnd}
-use Rattle.filterset_drawing.specs.{declared.remark.Form.Form, Columns.Text}
+use Rattle.filterset_display.specs.{declared.remark.Form.Form, Columns.Text}
 use Rattle.filterset_graph.specs.declared.package.PackageMetadata.{PackageMetadata}
 use Rattle.filterset_listing.specs.declared.binary.AskedBinary.{AskedBinary}
 use Rattle.filterset_configuration.specs.Profiles.{HasProfiles}

@@ -7,8 +7,8 @@ use Rattle.filterset_entries.specs.{Entries.setting_rows, Forms.IsWritten, Forms
 use Rattle.filterset_entries.specs.declared.{setting.Setting.Setting, text.Ending.Ending}
 use Rattle.filterset_entries.specs.declared.text.Ending.TheVariants.{Faulty, Fine}
 use Rattle.filterset_entries.specs.declared.text.WarningEnd.{WarningEnd}
-use Rattle.filterset_drawing.specs.{declared.remark.Form.Form, declared.remark.Form.TheVariants.Drawn, Columns.Text}
-use Rattle.filterset_drawing.specs.{Remarks.RemarkRow, Remarks.said, declared.remark.Severity.TheVariants.Warning}
+use Rattle.filterset_display.specs.{declared.remark.Form.Form, declared.remark.Form.TheVariants.Drawn, Columns.Text}
+use Rattle.filterset_display.specs.{Remarks.RemarkRow, Remarks.said, declared.remark.Severity.TheVariants.Warning}
 use Rattle.filterset_rewriting.specs.declared.reading.TextRefusal.{TextRefusal}
 use Rattle.filterset_faults.specs.declared.span.SourceSpan.{SourceSpan}
 use Rattle.filterset_grammar.specs.{Printing.printed, Tree.Tree}

@@ -14,7 +14,7 @@ use crate::overriding::ask_overrides;
 use crate::profiled::ask_configured;
 use crate::setting::warn_setting;
 use filterset_answers::{ask_workspace, asked_binaries, explain_filterset};
-use filterset_drawing::Form;
+use filterset_display::Form;
 use filterset_entries::{
     Answer, OverrideEntry, Question, Setting, TextEntry, WarningEnd, default_entry,
 };

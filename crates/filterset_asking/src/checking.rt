@@ -13,7 +13,7 @@ use crate::values::add_values;
 use crate::warning::{CheckedTexts, join_answers, warn_checked};
 use filterset_answers::check;
 use filterset_configuration::{WrongValue, find_wrong_values};
-use filterset_drawing::{Form, Source};
+use filterset_display::{Form, Source};
 use filterset_entries::{
     Answer, ConfiguredTexts, Names, TextEntry, WarningEnd, configured_entries, configured_texts,
 };

@@ -3,7 +3,7 @@ ghost use Rattle.std.specs.Prelude.{IfOk, string_bytes};
 ghost use Rattle.filterset_asking.specs.Configured.{WarnsOfFile};
 
 use filterset_configuration::Stretch;
-use filterset_drawing::Form;
+use filterset_display::Form;
 use filterset_entries::{
     ConfiguredTexts, FilePlace, RemarkWriter, Spot, configured_entries, unread_remarks,
 };

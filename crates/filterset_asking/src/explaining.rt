@@ -1,6 +1,6 @@
 //! Which binary or test `explain` and `overrides` are about.
 ghost use Rattle.std.specs.{Prelude.◌≡◌, Prelude.IfErr, Prelude.IfOk, Prelude.Option, Prelude.option_map, Borrow.Bor};
-ghost use Rattle.filterset_drawing.specs.Columns.{Text};
+ghost use Rattle.filterset_display.specs.Columns.{Text};
 ghost use Rattle.filterset_asking.specs.Explaining.{IsCandidate, IsMissing, binary_called, is_uncounted, name_called, test_called};
 ghost use Rattle.filterset_loading.specs.Files.{OrMemory};
 

@@ -1,6 +1,6 @@
 //! Filtersets as they print, or simplified.
 ghost use Rattle.std.specs.Prelude.{◌≡◌, ◌≢◌, ◌++◌, IfOk, ℕ, map, string_bytes};
-ghost use Rattle.filterset_drawing.specs.Columns.{Text};
+ghost use Rattle.filterset_display.specs.Columns.{Text};
 ghost use Rattle.filterset_json.specs.Pieces.{Pieces};
 ghost use Rattle.filterset_answers.specs.Answers.{FaultsOf, TextFaults};
 ghost use Rattle.filterset_asking.specs.Formatted.{FormatsTexts, FormattedLine, FormattedPart, IsRewritten, RewritesTexts, SimplifiesTexts};
@@ -8,7 +8,7 @@ ghost use Rattle.filterset_entries.specs.{Checked.HasReadingFaults, Checked.text
 ghost use Rattle.filterset_language.specs.Views.{tree_of};
 
 use filterset_deciding::simplify;
-use filterset_drawing::Form;
+use filterset_display::Form;
 use filterset_entries::{Answer, TextEntry, ending_of, fault_remarks, push_faults};
 use filterset_rewriting::read_text;
 use nextest_filtering::ParsedExpr;

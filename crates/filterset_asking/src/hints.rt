@@ -1,12 +1,12 @@
 //! The warnings of a filterset.
 ghost use Rattle.std.specs.Prelude.{◌≡◌, ◌++◌, IfOk, OnOk, map};
-ghost use Rattle.filterset_drawing.specs.Remarks.{remark_row};
+ghost use Rattle.filterset_display.specs.Remarks.{remark_row};
 ghost use Rattle.filterset_listing.specs.Finding.{found_of, unmatched_of};
 ghost use Rattle.filterset_language.specs.Views.{leaf_of, tree_of};
 ghost use Rattle.filterset_asking.specs.Warnings.{constant_text, needless_remark, remarks_of, unmatched_remark};
 
 use crate::span::span_of;
-use filterset_drawing::{Remark, Severity};
+use filterset_display::{Remark, Severity};
 use filterset_entries::leaf_span;
 use filterset_listing::{Hints, NeedlessOperand, UnmatchedPredicate};
 use std::alloc::{AllocError, Global};

@@ -8,7 +8,7 @@ ghost use Rattle.filterset_asking.specs.Overriding.{AnswersOverridesOf, LacksTes
 
 use crate::explaining::{find_binary, find_test};
 use filterset_answers::{ask_workspace, explain_test_overrides};
-use filterset_drawing::Form;
+use filterset_display::Form;
 use filterset_entries::{Answer, Question, Setting};
 use filterset_listing::AskedBinary;
 use filterset_loading::CommandFault;

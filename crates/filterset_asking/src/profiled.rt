@@ -12,7 +12,7 @@ use crate::asking::{AskedWorkspace, ask_under};
 use filterset_configuration::{
     DefaultFilter, Profile, RankedOverride, default_filter, rank_overrides,
 };
-use filterset_drawing::Source;
+use filterset_display::Source;
 use filterset_entries::{
     Answer, ChosenFilter, ConfiguredTexts, TextEntry, answer_unknown, asked_profiles, choose,
     configured_texts, override_entries,

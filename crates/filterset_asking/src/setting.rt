@@ -9,7 +9,7 @@ ghost use Rattle.filterset_asking.specs.Warnings.{AnswersWarnings, is_skipped, s
 
 use crate::texts::{WarningContext, warn_texts};
 use filterset_answers::{CompiledTexts, QuestionFiltersets, compile_texts, group_overrides};
-use filterset_drawing::Form;
+use filterset_display::Form;
 use filterset_entries::{Answer, Ending, Setting, TextEntry, WarningEnd};
 use filterset_listing::{AskedBinary, subjects_of};
 use nextest_filtering::{EvalContext, ParseContext};

@@ -1,14 +1,14 @@
 //! The warnings of texts.
 ghost use Rattle.std.specs.Prelude.{◌≡◌, ◌++◌, IfOk, map, string_bytes};
 ghost use Rattle.filterset_entries.specs.Checked.{IsAccepted, text_row};
-ghost use Rattle.filterset_drawing.specs.Columns.{Text};
+ghost use Rattle.filterset_display.specs.Columns.{Text};
 ghost use Rattle.filterset_expression.specs.Meaning.{IsCompiled};
 ghost use Rattle.filterset_language.specs.Views.{tree_of};
 ghost use Rattle.nextest_filtering.specs.{Compiling.packages_of, Groups.IsKnown};
 ghost use Rattle.filterset_asking.specs.{Contexts.basis_of, Warnings.TextWarnings, Warnings.WarningsOf};
 
 use crate::hints::remarks_of;
-use filterset_drawing::{Form, Source};
+use filterset_display::{Form, Source};
 use filterset_entries::{RemarkWriter, TextEntry, parse_entry};
 use filterset_listing::{Subject, find_hints};
 use nextest_filtering::{EvalContext, Filterset, KnownGroups, ParseContext};

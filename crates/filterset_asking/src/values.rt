@@ -1,12 +1,12 @@
 //! The wrong values of a configuration.
 ghost use Rattle.std.specs.Prelude.{◌≡◌, ◌==◌, ◌++◌, IfOk, OnOk, if◌then◌else◌, length, option_map, string_bytes};
 ghost use Rattle.filterset_entries.specs.{Placements.placement_of, declared.text.Ending.TheVariants.Faulty};
-ghost use Rattle.filterset_drawing.specs.{Columns.Text, Remarks.remark_row};
+ghost use Rattle.filterset_display.specs.{Columns.Text, Remarks.remark_row};
 ghost use Rattle.filterset_json.specs.Pieces.{Pieces};
 ghost use Rattle.filterset_asking.specs.Values.{IsValuePiece, value_place, value_remark};
 
 use filterset_configuration::WrongValue;
-use filterset_drawing::{Form, Remark, Severity, Source};
+use filterset_display::{Form, Remark, Severity, Source};
 use filterset_entries::{Answer, Ending, FilePlace, RemarkWriter, Spot};
 use filterset_faults::SourceSpan;
 use std::alloc::{AllocError, Global};

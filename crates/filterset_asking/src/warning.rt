@@ -12,7 +12,7 @@ ghost use Rattle.filterset_loading.specs.{Files.OrMemory, Configurations.profile
 use crate::asking::{AskedWorkspace, Wanted, ask_plainly};
 use crate::profiled::ask_profile;
 use crate::setting::count_warnings;
-use filterset_drawing::Form;
+use filterset_display::Form;
 use filterset_entries::{Answer, ConfiguredTexts, Ending, TextEntry, WarningEnd};
 use filterset_graph::PackageGraph;
 use filterset_loading::{

@@ -7,7 +7,7 @@ use Rattle.std.specs.{Borrow.Bor, Cmp.Derive.Mapped.pointwise-map, Cmp.Lexicogra
 use Rattle.std.specs.{Prelude.Vec, Prelude.is_none, Prelude.is_some, Prelude.not, Str.bytes_eq}
 use Rattle.filterset_entries.specs.{Checked.TextRow, Entries.line_rows, Entries.rows_in}
 use Rattle.filterset_entries.specs.declared.entries.ConfiguredTexts.{ConfiguredTexts}
-use Rattle.filterset_drawing.specs.declared.source.Source.{Source}
+use Rattle.filterset_display.specs.declared.source.Source.{Source}
 use Rattle.filterset_faults.specs.declared.kind.FiltersetKind.TheVariants as kinds
 use Rattle.filterset_configuration.specs.declared.places.Places.{Places}
 use Rattle.filterset_sources.specs.declared.configuration.ConfiguredFilterset.{ConfiguredFilterset}
@@ -15,7 +15,7 @@ use Rattle.filterset_documents.specs.Contents.{AreRewritten, AreRowsOf, IsRewrit
 use Rattle.filterset_documents.specs.Filtersets.{AreTexts}
 use Rattle.filterset_documents.specs.declared.content.Filtersets.TheVariants.{Configured, Lines}
 use Rattle.filterset_documents.proofs.JoinLemmas.{rows_more}
-use Rattle.filterset_editor.specs.Positions.{Text}
+use Rattle.filterset_display.specs.Positions.{Text}
 
 abbrev pub bytes_of : String Global → Text
 bytes_of s = string_bytes s

@@ -7,7 +7,7 @@ use Rattle.std.proofs.lemmas.Str.{IsCharBoundary-from_rest}
 use Rattle.std.specs.{List.Sorted.IsNonDecreasingBy, Option.option_map_or, Str.IsCharBoundary, Str.bytes_eq, Borrow.Bor}
 use Rattle.filterset_entries.specs.Checked.{TextRow, text_row}
 use Rattle.filterset_entries.specs.{declared.text.TextEntry.TextEntry, Placements.Placement}
-use Rattle.filterset_editor.specs.Positions.{Text}
+use Rattle.filterset_display.specs.Positions.{Text}
 use Rattle.filterset_configuration.specs.{Numbers.AreApart, declared.stretch.Stretch.Stretch}
 use Rattle.filterset_documents.specs.Edits.{EditRow, IsBetween, IsWithin, ReplacesOne, edited_from, rewrites, row_edits, written_at}
 use Rattle.filterset_documents.specs.Filtersets.{stretch_at}

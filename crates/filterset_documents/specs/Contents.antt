@@ -3,8 +3,8 @@ use Rattle.std.specs.Prelude.{◌≡◌, ◌⊎◌, Bool, false, true, List, [],
 use Rattle.std.specs.{Bool.Decides, Borrow.Bor, declared.alloc.Global.Global}
 use Rattle.filterset_entries.specs.{Checked.TextRow, Checked.text_row, Entries.line_rows, Entries.rows_in}
 use Rattle.filterset_entries.specs.declared.entries.ConfiguredTexts.{ConfiguredTexts}
-use Rattle.filterset_drawing.specs.declared.source.Source.{Source}
-use Rattle.filterset_editor.specs.Positions.{Text}
+use Rattle.filterset_display.specs.declared.source.Source.{Source}
+use Rattle.filterset_display.specs.Positions.{Text}
 use Rattle.filterset_faults.specs.declared.kind.FiltersetKind.TheVariants as kinds
 use Rattle.filterset_sources.specs.Configurations.{IsConfiguration, RefusesConfiguration}
 use Rattle.filterset_sources.specs.declared.configuration.Configuration.{Configuration}

@@ -6,10 +6,10 @@ use Rattle.toml.specs.Errors.{span_start, span_end}
 use Rattle.filterset_entries.specs.{Checked.HasFaults, Checked.TextRow, Names.KnowsNames}
 use Rattle.filterset_entries.specs.Placements.{Placement, file_part}
 use Rattle.filterset_entries.specs.{Unread.AreUnreadRemarks, declared.names.Names.Names}
-use Rattle.filterset_drawing.specs.Remarks.{RemarkRow}
-use Rattle.filterset_drawing.specs.declared.remark.Severity.{Severity, TheVariants.Error, TheVariants.Warning}
-use Rattle.filterset_drawing.specs.declared.source.FileSpan.{FileSpan}
-use Rattle.filterset_editor.specs.{Positions.Text, declared.positions.Encoding.Encoding}
+use Rattle.filterset_display.specs.Remarks.{RemarkRow}
+use Rattle.filterset_display.specs.declared.remark.Severity.{Severity, TheVariants.Error, TheVariants.Warning}
+use Rattle.filterset_display.specs.declared.source.FileSpan.{FileSpan}
+use Rattle.filterset_display.specs.{Positions.Text, declared.positions.Encoding.Encoding}
 use Rattle.filterset_faults.specs.{Span.span, declared.span.SourceSpan.SourceSpan}
 use Rattle.filterset_configuration.specs.{Places.file_span, Wrong.AreWrongValues, declared.wrong.WrongValue.WrongValue}
 use Rattle.filterset_sources.specs.declared.refusal.SourceRefusal.{SourceRefusal, TheVariants.NotToml}

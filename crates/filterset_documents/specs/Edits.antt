@@ -5,7 +5,7 @@ use Rattle.std.specs.{List.Sorted.IsNonDecreasingBy, List.Sorted.IsPermutation, 
 use Rattle.serde_json.specs.Data.{Data, array, string, object, member, no_members}
 use Rattle.serde_json.specs.View.{items_of}
 use Rattle.filterset_entries.specs.{Checked.TextRow, Placements.TextSpot, Placements.line, Placements.literal}
-use Rattle.filterset_editor.specs.{Positions.Text, declared.positions.Encoding.Encoding, declared.positions.Range.Range}
+use Rattle.filterset_display.specs.{Positions.Text, declared.positions.Encoding.Encoding, declared.positions.Range.Range}
 use Rattle.filterset_configuration.specs.{Numbers.AreApart, declared.stretch.Stretch.Stretch}
 use Rattle.filterset_documents.specs.Filtersets.{stretch_at, stretch_span}
 use Rattle.filterset_documents.specs.{Ranges.IsRangeOf, Ranges.range_data, declared.edits.Edit.Edit}

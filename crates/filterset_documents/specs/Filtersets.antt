@@ -4,8 +4,8 @@ use Rattle.std.specs.Str.{bytes_eq}
 use Rattle.filterset_entries.specs.Checked.{TextRow}
 use Rattle.filterset_entries.specs.Placements.{Placement, TextSpot, line, literal}
 use Rattle.filterset_entries.specs.declared.entries.ConfiguredTexts.{ConfiguredTexts}
-use Rattle.filterset_drawing.specs.declared.source.Source.{Source}
-use Rattle.filterset_editor.specs.Positions.{Text}
+use Rattle.filterset_display.specs.declared.source.Source.{Source}
+use Rattle.filterset_display.specs.Positions.{Text}
 use Rattle.filterset_faults.specs.{Span.length_of, Span.offset_of, Span.span, declared.span.SourceSpan.SourceSpan}
 use Rattle.filterset_grammar.specs.Tree.{Tree}
 use Rattle.filterset_language.specs.{Views.tree_of, declared.tree.ParsedExpr.ParsedExpr}

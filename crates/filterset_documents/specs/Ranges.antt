@@ -1,9 +1,9 @@
 -- Parts of documents, as the protocol has them.
 use Rattle.std.specs.{Prelude.◌≡◌, Prelude.◌≤◌, Prelude.◌<◌, Prelude.ℕ, Prelude.codes, Str.IsCharBoundary}
 use Rattle.serde_json.specs.Data.{Data, number, unsigned, object, member, no_members}
-use Rattle.filterset_drawing.specs.Lines.{from_of, to_of}
-use Rattle.filterset_editor.specs.Positions.{IsPosition, Text}
-use Rattle.filterset_editor.specs.declared.positions.{Encoding.Encoding, Position.Position, Range.Range}
+use Rattle.filterset_display.specs.Lines.{from_of, to_of}
+use Rattle.filterset_display.specs.Positions.{IsPosition, Text}
+use Rattle.filterset_display.specs.declared.positions.{Encoding.Encoding, Position.Position, Range.Range}
 use Rattle.filterset_faults.specs.declared.span.SourceSpan.{SourceSpan}
 
 -- the offset of the last character that begins at an offset or before it; the end of the text counts as one

@@ -6,7 +6,7 @@ ghost use Rattle.filterset_documents.specs.Contents.{AreRowsOf, Holds, content_r
 ghost use Rattle.filterset_documents.specs.Filtersets.{SaysWhy};
 
 use filterset_configuration::Places;
-use filterset_drawing::Source;
+use filterset_display::Source;
 use filterset_entries::{TextEntry, configured_entries, configured_texts, line_entries};
 use filterset_sources::{Configuration, ConfiguredFilterset, SourceRefusal, read_configuration};
 use nextest_filtering::FiltersetKind;

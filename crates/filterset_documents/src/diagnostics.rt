@@ -3,11 +3,11 @@ ghost use Rattle.std.specs.Prelude.{◌≡◌, IfOk};
 ghost use Rattle.serde_json.specs.View.{view};
 ghost use Rattle.filterset_documents.specs.Diagnostics as spec;
 ghost use Rattle.filterset_documents.specs.Diagnostics.{IsDiagnostic, IsRemarkAt, diagnostic_data};
-ghost use Rattle.filterset_drawing.specs.Remarks.{remark_row};
+ghost use Rattle.filterset_display.specs.Remarks.{remark_row};
 
 use crate::message::remark_message;
 use crate::ranges::{Shown, span_value};
-use filterset_drawing::{Remark, Severity};
+use filterset_display::{Remark, Severity};
 use filterset_faults::SourceSpan;
 use serde_json::{Value, json};
 use std::alloc::{AllocError, Global};

@@ -10,7 +10,7 @@ use crate::places::{stretch_at, stretch_span};
 use crate::quoting::{needs_escapes, quote};
 use crate::ranges::{Shown, range_of, range_value};
 use filterset_configuration::Stretch;
-use filterset_editor::Range;
+use filterset_display::Range;
 use filterset_entries::{Spot, TextEntry};
 use serde_json::{Value, json};
 use std::alloc::{AllocError, Global};

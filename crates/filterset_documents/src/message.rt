@@ -1,9 +1,9 @@
 //! What diagnostics say.
 ghost use Rattle.std.specs.Prelude.{◌≡◌, ◌++◌, IfOk, OnOk, option_map, string_bytes};
-ghost use Rattle.filterset_drawing.specs.Remarks.{remark_row};
+ghost use Rattle.filterset_display.specs.Remarks.{remark_row};
 ghost use Rattle.filterset_documents.specs.Diagnostics.{further_line, remark_text, wrong_text};
 
-use filterset_drawing::Remark;
+use filterset_display::Remark;
 use std::alloc::{AllocError, Global};
 use std::fmt::Write;
 

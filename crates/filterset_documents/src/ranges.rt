@@ -3,7 +3,7 @@ ghost use Rattle.std.specs.Prelude.{◌≡◌, IfOk};
 ghost use Rattle.serde_json.specs.View.{view};
 ghost use Rattle.filterset_documents.specs.Ranges.{IsPositionAt, IsRange, IsRangeOf, position_data, range_data};
 
-use filterset_editor::{Encoding, Lines, Position, Range};
+use filterset_display::{Encoding, Lines, Position, Range};
 use filterset_faults::SourceSpan;
 use serde_json::{Value, json};
 use std::alloc::{AllocError, Global};

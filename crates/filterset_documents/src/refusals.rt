@@ -1,7 +1,7 @@
 //! The diagnostics of texts that are no configuration.
 ghost use Rattle.std.specs.Prelude.{◌≡◌, ◌-◌, ◌∷◌, [], IfOk, codes, map, string_bytes};
 ghost use Rattle.serde_json.specs.{Data.Data, View.view};
-ghost use Rattle.filterset_editor.specs.Positions.{Text};
+ghost use Rattle.filterset_display.specs.Positions.{Text};
 ghost use Rattle.toml.specs.Errors.{span_end, span_start};
 ghost use Rattle.filterset_faults.specs.Span.{span};
 ghost use Rattle.filterset_sources.specs.Configurations.{RefusesConfiguration};
@@ -10,7 +10,7 @@ ghost use Rattle.filterset_documents.specs.Diagnostics.{IsDiagnostic, IsRefusalA
 use crate::diagnostics::diagnostic_at;
 use crate::message::wrong_message;
 use crate::ranges::Shown;
-use filterset_drawing::Severity;
+use filterset_display::Severity;
 use filterset_faults::SourceSpan;
 use filterset_sources::{SourceRefusal, WrongValue};
 use serde_json::Value;

@@ -6,13 +6,13 @@ ghost use Rattle.nextest_filtering.specs.Groups.{IsKnown};
 ghost use Rattle.filterset_documents.specs.Contents.{names_in};
 ghost use Rattle.filterset_documents.specs.Diagnostics.{AreDiagnosed, DiagnosesContent, RowDiagnostics, fault_span};
 ghost use Rattle.filterset_documents.specs.Joins.{Joins};
-ghost use Rattle.filterset_drawing.specs.Remarks.{remark_row};
+ghost use Rattle.filterset_display.specs.Remarks.{remark_row};
 
 use crate::diagnostics::remark_value;
 use crate::ranges::Shown;
 use crate::unread::diagnose_unread;
 use crate::values::diagnose_values;
-use filterset_drawing::Remark;
+use filterset_display::Remark;
 use filterset_entries::{FilePlace, Names, TextEntry, faults_of, file_part};
 use filterset_faults::SourceSpan;
 use filterset_graph::PackageGraph;

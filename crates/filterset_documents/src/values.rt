@@ -7,7 +7,7 @@ use crate::diagnostics::diagnostic_at;
 use crate::message::wrong_message;
 use crate::ranges::Shown;
 use filterset_configuration::{WrongValue, find_wrong_values};
-use filterset_drawing::Severity;
+use filterset_display::Severity;
 use filterset_faults::SourceSpan;
 use serde_json::Value;
 use std::alloc::{AllocError, Global};

@@ -3,8 +3,8 @@ use Rattle.std.proofs.Common.{◌≡◌, ℕ, zero, suc, ◌+◌, ◌-◌, ◌<�
 use Rattle.std.specs.{Prelude.if◌then◌else◌, Prelude.slice_index, List.zip, Str.Lines.lines, Str.Lines.lines_of_parts}
 use Rattle.std.proofs.lemmas.List.{length-take-le, Sums.sum_by_more, Sums.sum_by_more_le}
 use Rattle.std.proofs.lemmas.Slice.Zip.{get_or-zip, length-zip}
-use Rattle.filterset_drawing.specs.{Columns.Text, Lines.pieces}
-use Rattle.filterset_drawing.proofs.LineLemmas.{extent-slice_split}
+use Rattle.filterset_display.specs.{Columns.Text, Lines.pieces}
+use Rattle.filterset_display.proofs.LineLemmas.{extent-slice_split}
 use Rattle.filterset_entries.specs.Entries.{line_start}
 
 -- ---- lines

@@ -2,8 +2,8 @@
 use Rattle.std.proofs.Common.{◌≡◌, ℕ, ◌+◌, ◌<◌, arith, List, [], ◌∷◌, ◌++◌, length, map, take, get_or, ◌∙◌, sym, ap, refl, Option, None, Some, subst, false, String, Global, string_bytes}
 use Rattle.std.proofs.lemmas.List.{map-append, length-map, length-take-le, take_more, Elements.filter_map-append}
 use Rattle.std.specs.{List.enumerate_from, List.filter_map, Prelude.option_map, Prelude.option_to_list, Borrow.Bor}
-use Rattle.filterset_drawing.specs.{Columns.Text, Json.number_data, Json.text_data, Json.RemarkData, Remarks.RemarkRow}
-use Rattle.filterset_drawing.specs.declared.source.FileSpan.{FileSpan}
+use Rattle.filterset_display.specs.{Columns.Text, Json.number_data, Json.text_data, Json.RemarkData, Remarks.RemarkRow}
+use Rattle.filterset_display.specs.declared.source.FileSpan.{FileSpan}
 use Rattle.filterset_faults.specs.declared.kind.FiltersetKind.{FiltersetKind}
 use Rattle.filterset_faults.specs.declared.parse_errors.FiltersetParseErrors.{FiltersetParseErrors}
 use Rattle.filterset_entries.specs.{Checked.TextRow, Checked.text_row, declared.text.TextEntry.TextEntry}

@@ -1,7 +1,7 @@
 -- The remarks on the operators of filtersets, one filterset after the other.
 use Rattle.std.proofs.Common.{◌≡◌, ◌∙◌, ℕ, ◌+◌, ◌<◌, List, [], ◌∷◌, ◌++◌, length, map, take, get_or, ap, append_assoc, refl, sym}
 use Rattle.std.proofs.lemmas.List.{append-nil, map-append, take_more}
-use Rattle.filterset_drawing.specs.Remarks.{RemarkRow}
+use Rattle.filterset_display.specs.Remarks.{RemarkRow}
 use Rattle.filterset_entries.specs.{Checked.TextRow, Unread.AreAllCaretRemarks, Unread.AreCaretRemarks}
 
 carets-push : (rows : List TextRow) (row : TextRow) (remarks added : List RemarkRow) → AreAllCaretRemarks rows remarks → AreCaretRemarks row added

@@ -1,7 +1,7 @@
 -- Which faults a text has.
 use Rattle.std.specs.Prelude.{◌≡◌, ◌≢◌, ◌≤◌, ◌⊎◌, ℕ, List, [], ◌∷◌, Option, None, Some, codes, false, filter, map, option_map, string_bytes}
-use Rattle.filterset_drawing.specs.{Columns.Text, Remarks.RemarkRow, Remarks.fault_remark, Remarks.said}
-use Rattle.filterset_drawing.specs.declared.remark.Severity.TheVariants.{Error}
+use Rattle.filterset_display.specs.{Columns.Text, Remarks.RemarkRow, Remarks.fault_remark, Remarks.said}
+use Rattle.filterset_display.specs.declared.remark.Severity.TheVariants.{Error}
 use Rattle.filterset_expression.specs.Expression.{has_leaf, is_default, is_group}
 use Rattle.filterset_expression.specs.Meaning.{IsCompiled}
 use Rattle.filterset_faults.specs.{Span.span, declared.error.ParseSingleError.ParseSingleError}

@@ -1,6 +1,6 @@
 -- How commands end.
 use Rattle.std.specs.Prelude.{◌≡◌, ◌++◌, ℕ, zero, suc, Bool, codes, if◌then◌else◌}
-use Rattle.filterset_drawing.specs.Columns.{Text}
+use Rattle.filterset_display.specs.Columns.{Text}
 use Rattle.filterset_entries.specs.declared.text.Ending.{Ending}
 use Rattle.filterset_entries.specs.declared.text.Ending.TheVariants.{Fine, Faulty, Differing, Unknown}
 

@@ -1,7 +1,7 @@
 -- Which texts commands check, format or ask, as rows: where a text comes from, what it has to be, and the text.
 use Rattle.std.specs.Prelude.{◌≡◌, ℕ, ◌+◌, ◌-◌, ◌==◌, ◌&&◌, ◌||◌, ◌++◌, Bool, false, true, not, List, [], ◌∷◌, None, Option, Some, codes, decimal, drop, filter_map, if◌then◌else◌, length, map, option_map, string_bytes, sum_by, take}
 use Rattle.std.specs.{Borrow.Bor, List.enumerate_from, Str.bytes_eq, Str.trim_start, Str.Lines.lines}
-use Rattle.filterset_drawing.specs.{Columns.Text, Lines.pieces, declared.source.Source.Source}
+use Rattle.filterset_display.specs.{Columns.Text, Lines.pieces, declared.source.Source.Source}
 use Rattle.filterset_faults.specs.declared.kind.FiltersetKind.{FiltersetKind}
 use Rattle.filterset_faults.specs.declared.kind.FiltersetKind.TheVariants as kinds
 use Rattle.filterset_sources.specs.declared.configuration.{ConfiguredFilterset.ConfiguredFilterset, FilterKey.FilterKey}

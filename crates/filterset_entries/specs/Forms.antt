@@ -1,9 +1,9 @@
 -- How remarks are written.
 use Rattle.std.specs.Prelude.{◌≡◌, ◌++◌, ℕ, List, Option, Some, None, codes, option_map}
 use Rattle.serde_json.specs.{Data.Data, Written.compact_text}
-use Rattle.filterset_drawing.specs.{Annotations.Annotation, Columns.Text, Drawings.Drawing, Json.RemarkData}
-use Rattle.filterset_drawing.specs.{Remarks.RemarkRow, declared.color.Color.Color, declared.source.FileSpan.FileSpan}
-use Rattle.filterset_drawing.specs.declared.remark.Form.{Form, TheVariants.Drawn, TheVariants.Github, TheVariants.Json}
+use Rattle.filterset_display.specs.{Annotations.Annotation, Columns.Text, Drawings.Drawing, Json.RemarkData}
+use Rattle.filterset_display.specs.{Remarks.RemarkRow, declared.color.Color.Color, declared.source.FileSpan.FileSpan}
+use Rattle.filterset_display.specs.declared.remark.Form.{Form, TheVariants.Drawn, TheVariants.Github, TheVariants.Json}
 use Rattle.filterset_json.specs.Pieces.{Pieces}
 use Rattle.filterset_entries.specs.Checked.{TextRow}
 use Rattle.filterset_entries.specs.Placements.{Placement, TextSpot, file_part, line, literal, placement_of}

@@ -1,6 +1,6 @@
 -- Which names filtersets may use, and which faults count if not all names are known.
 use Rattle.std.specs.Prelude.{◌≡◌, List, Bool, true}
-use Rattle.filterset_drawing.specs.Columns.{Text}
+use Rattle.filterset_display.specs.Columns.{Text}
 use Rattle.filterset_faults.specs.declared.error.ParseSingleError.{ParseSingleError}
 use Rattle.filterset_faults.specs.declared.error.ParseSingleError.TheVariants.{NoPackageMatch, NoBinaryIdMatch, NoBinaryNameMatch, NoGroupMatch}
 use Rattle.filterset_graph.specs.declared.package.PackageMetadata.{PackageMetadata}

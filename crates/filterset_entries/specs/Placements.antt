@@ -1,6 +1,6 @@
 -- Where texts are in files.
 use Rattle.std.specs.{Prelude.◌+◌, Prelude.◌-◌, Prelude.Option, Prelude.Some, Prelude.None, Prelude.min, Borrow.Bor}
-use Rattle.filterset_drawing.specs.declared.source.{FileSpan.FileSpan, Source.Source}
+use Rattle.filterset_display.specs.declared.source.{FileSpan.FileSpan, Source.Source}
 use Rattle.filterset_faults.specs.{Span.length_of, Span.offset_of, Span.span, declared.span.SourceSpan.SourceSpan}
 use Rattle.filterset_configuration.specs.Places.{file_span}
 use Rattle.filterset_configuration.specs.declared.{place.Place.Place, stretch.Stretch.Stretch}

@@ -1,7 +1,7 @@
 -- The texts of a profile, each with its path in the configuration and its place in the file, and the keys that it sets.
 use Rattle.std.specs.Prelude.{◌≡◌, ◌++◌, None, Option, Some, Err, Ok, Result, codes, option_and_then, option_map, position, string_bytes}
 use Rattle.std.specs.Str.{bytes_eq}
-use Rattle.filterset_drawing.specs.Columns.{Text}
+use Rattle.filterset_display.specs.Columns.{Text}
 use Rattle.filterset_faults.specs.declared.kind.FiltersetKind.{FiltersetKind}
 use Rattle.filterset_faults.specs.declared.kind.FiltersetKind.TheVariants as kinds
 use Rattle.filterset_overrides.specs.declared.asked.AskedProfile.{AskedProfile}

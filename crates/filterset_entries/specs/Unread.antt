@@ -1,7 +1,7 @@
 -- What nextest does not read of a configuration.
 use Rattle.std.specs.Prelude.{◌≡◌, ◌++◌, ◌∷◌, [], List, None, Option, Some, codes, map, option_map, string_bytes}
-use Rattle.filterset_drawing.specs.{Columns.Text, Remarks.RemarkRow, Remarks.said}
-use Rattle.filterset_drawing.specs.declared.remark.Severity.TheVariants.{Warning}
+use Rattle.filterset_display.specs.{Columns.Text, Remarks.RemarkRow, Remarks.said}
+use Rattle.filterset_display.specs.declared.remark.Severity.TheVariants.{Warning}
 use Rattle.filterset_faults.specs.declared.span.SourceSpan.{SourceSpan}
 use Rattle.filterset_configuration.specs.{Keys.AreUnknownKeys, declared.unknown.UnknownKey.UnknownKey}
 use Rattle.filterset_rewriting.specs.Tokens.{HasCarets}

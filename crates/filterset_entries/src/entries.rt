@@ -8,7 +8,7 @@ use crate::place::{FilePlace, Spot};
 use crate::question::Question;
 use crate::text::TextEntry;
 use filterset_configuration::{Places, Stretch};
-use filterset_drawing::Source;
+use filterset_display::Source;
 use filterset_sources::{ConfiguredFilterset, FilterKey};
 use nextest_filtering::FiltersetKind;
 use std::alloc::{AllocError, Global};

@@ -1,12 +1,12 @@
 //! The faults of a text.
 ghost use Rattle.std.specs.Prelude.{◌≡◌, ◌∷◌, [], IfErr, IfOk, map};
-ghost use Rattle.filterset_drawing.specs.Remarks.{fault_remark, remark_row};
+ghost use Rattle.filterset_display.specs.Remarks.{fault_remark, remark_row};
 ghost use Rattle.nextest_filtering.specs.{Compiling.packages_of, Groups.IsKnown};
 ghost use Rattle.filterset_entries.specs.Checked.{HasFaults, IsFiltersetFor, IsRefusedFor, all_remarks, deep_remark, text_row};
 
 use crate::names::Names;
 use crate::text::TextEntry;
-use filterset_drawing::{Remark, Severity};
+use filterset_display::{Remark, Severity};
 use filterset_faults::SourceSpan;
 use filterset_rewriting::TextRefusal;
 use filterset_rewriting::nesting::{MOST_LEVELS, find_deep_place};

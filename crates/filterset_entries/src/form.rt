@@ -1,14 +1,14 @@
 //! How remarks are written.
 ghost use Rattle.std.specs.Prelude.{◌≡◌, ◌++◌, OnOk, codes, map, option_map, string_bytes};
 ghost use Rattle.serde_json.specs.{Data.Data, Written.compact_text};
-ghost use Rattle.filterset_drawing.specs.{Columns.Text, Json.RemarkData, Remarks.remark_row};
+ghost use Rattle.filterset_display.specs.{Columns.Text, Json.RemarkData, Remarks.remark_row};
 ghost use Rattle.filterset_json.specs.Pieces.{Pieces};
 ghost use Rattle.filterset_entries.specs.Checked.{text_row};
 ghost use Rattle.filterset_entries.specs.Forms.{FaultPieces, IsWritten, name_of, note_of, writing_of};
 
 use crate::place::{FilePlace, Spot, file_part};
 use crate::text::TextEntry;
-use filterset_drawing::{
+use filterset_display::{
     Canvas, FileSpan, Form, Remark, Source, draw_remark, push_annotation, remark_json,
 };
 use std::alloc::{AllocError, Global};

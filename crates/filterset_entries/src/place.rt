@@ -4,7 +4,7 @@ ghost use Rattle.filterset_language.specs.{Faults.leaf_span, Views.leaf_of};
 ghost use Rattle.filterset_entries.specs.Placements.{file_part, placement_of, span_in, spot_of};
 
 use filterset_configuration::{Place, Stretch};
-use filterset_drawing::{FileSpan, Source};
+use filterset_display::{FileSpan, Source};
 use filterset_language::ParsedLeaf;
 use nextest_filtering::SourceSpan;
 

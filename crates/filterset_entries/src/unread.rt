@@ -1,13 +1,13 @@
 //! What nextest does not read of a configuration: operators that it has not, and keys that are meant for others.
 ghost use Rattle.std.specs.Prelude.{◌≡◌, ◌++◌, IfOk, List, OnOk, map, option_map};
-ghost use Rattle.filterset_drawing.specs.Remarks.{RemarkRow, remark_row};
+ghost use Rattle.filterset_display.specs.Remarks.{RemarkRow, remark_row};
 ghost use Rattle.filterset_entries.specs.{Checked.text_row, Placements.placement_of};
 ghost use Rattle.filterset_entries.specs.Unread.{AreCaretRemarks, AreUnreadRemarks, caret_remark, key_remark, found_span};
 
 use crate::place::{FilePlace, file_part};
 use crate::text::TextEntry;
 use filterset_configuration::{UnknownKey, find_unknown_keys};
-use filterset_drawing::{Remark, Severity};
+use filterset_display::{Remark, Severity};
 use filterset_faults::SourceSpan;
 use filterset_rewriting::tokens::carets_in;
 use std::alloc::{AllocError, Global};

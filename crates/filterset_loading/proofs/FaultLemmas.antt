@@ -1,7 +1,7 @@
 -- What is known of the fault that a call returns.
 use Rattle.std.proofs.Common.{Option, subst, sym}
 use Rattle.std.specs.declared.io.Error.{Error}
-use Rattle.filterset_drawing.specs.Columns.{Text}
+use Rattle.filterset_display.specs.Columns.{Text}
 use Rattle.filterset_json.specs.declared.fault.RunFault.TheVariants.{Memory}
 use Rattle.filterset_loading.specs.Files.{IsFaultAt, IsFileFault, IsUnused, OrMemory}
 use Rattle.filterset_loading.specs.declared.fault.CommandFault.{CommandFault, TheVariants.File, TheVariants.Run}

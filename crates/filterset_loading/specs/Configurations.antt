@@ -1,7 +1,7 @@
 -- What files say of a configuration and its profiles, and of the platforms by which their overrides apply.
 use Rattle.std.specs.Prelude.{◌≡◌, ◌≢◌, ◌⊎◌, List, Option, Some, None, IsSomeAnd, Vec, alloc_error, map, string_bytes}
 use Rattle.std.specs.{Borrow.Bor, Global.Global, declared.io.Error.Error}
-use Rattle.filterset_drawing.specs.Columns.{Text}
+use Rattle.filterset_display.specs.Columns.{Text}
 use Rattle.filterset_configuration.specs.{Places.ArePlaces, declared.place.Place.Place, declared.places.Places.Places}
 use Rattle.filterset_configuration.specs.PlatformTrees.{setting_of}
 use Rattle.filterset_configuration.specs.declared.platforms.{fault.CfgRefusal.TheVariants.OutOfMemory, settings.Cfg.Cfg}

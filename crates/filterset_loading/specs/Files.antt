@@ -1,7 +1,7 @@
 -- Faults of files.
 use Rattle.std.specs.Prelude.{◌≡◌, ◌≢◌, Bool, Option, Some, IfSome, alloc_error, codes, if◌then◌else◌, string_bytes}
 use Rattle.std.specs.{Str.IsUtf8, Str.bytes_eq, declared.io.Error.Error}
-use Rattle.filterset_drawing.specs.Columns.{Text}
+use Rattle.filterset_display.specs.Columns.{Text}
 use Rattle.filterset_json.specs.declared.fault.RunFault.TheVariants.{Memory}
 use Rattle.filterset_sources.specs.declared.refusal.SourceRefusal.{SourceRefusal, TheVariants.OutOfMemory}
 use Rattle.filterset_loading.specs.declared.fault.CommandFault.{CommandFault, TheVariants.File, TheVariants.Run}

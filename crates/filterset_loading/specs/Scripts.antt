@@ -2,7 +2,7 @@
 use Rattle.std.specs.Prelude.{ℕ, ◌++◌, ◌==◌, chars, codes, encode_utf8, if◌then◌else◌}
 use Rattle.std.specs.List.{flat_map}
 use Rattle.clap.specs.declared.builder.command.Command.{Command}
-use Rattle.filterset_drawing.specs.Columns.{Text}
+use Rattle.filterset_display.specs.Columns.{Text}
 use Rattle.filterset_loading.specs.Table.{table}
 use Rattle.filterset_loading.specs.declared.engines.TheConstants.{BASH_END, BASH_START, FISH_END, FISH_START, ZSH_END, ZSH_START}
 use Rattle.filterset_loading.specs.declared.shell.Shell.{Shell, TheVariants.Bash, TheVariants.Fish, TheVariants.Zsh}

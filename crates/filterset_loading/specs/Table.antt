@@ -6,7 +6,7 @@ use Rattle.clap.specs.{Words.parser_of, declared.builder.command.Command.TheView
 use Rattle.clap.specs.declared.builder.action.ArgAction.{ArgAction, TheVariants.Append, TheVariants.Set}
 use Rattle.clap.specs.declared.builder.{arg.Arg.Arg, command.Command.Command}
 use Rattle.clap.specs.declared.builder.value_parser.ValueParser.{ValueParser, TheVariants.Names}
-use Rattle.filterset_drawing.specs.Columns.{Text}
+use Rattle.filterset_display.specs.Columns.{Text}
 use Rattle.filterset_loading.specs.declared.engines.TheConstants.{ADDED}
 
 -- the long name of an argument, which one that is given by its place lacks

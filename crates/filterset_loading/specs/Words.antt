@@ -5,9 +5,9 @@ use Rattle.std.specs.{Str.Parse.IsNumeral, Str.Parse.digits_value, Str.Parse.wit
 use Rattle.clap.specs.{Simple.subcommand_rows_of, Walk.rows_of}
 use Rattle.clap.specs.Words.{first_value, matched_of, one_text, raw_values, subcommand_name_of}
 use Rattle.clap.specs.declared.parser.matches.{ArgMatches.ArgMatches, Found.Found}
-use Rattle.filterset_drawing.specs.declared.remark.Form.{Form, TheVariants.Drawn, TheVariants.Github, TheVariants.Json}
-use Rattle.filterset_drawing.specs.Columns.{Text}
-use Rattle.filterset_drawing.specs.declared.color.Color.{Color, TheVariants.Always, TheVariants.Never}
+use Rattle.filterset_display.specs.declared.remark.Form.{Form, TheVariants.Drawn, TheVariants.Github, TheVariants.Json}
+use Rattle.filterset_display.specs.Columns.{Text}
+use Rattle.filterset_display.specs.declared.color.Color.{Color, TheVariants.Always, TheVariants.Never}
 use Rattle.filterset_loading.specs.{Scripts.name_of, declared.shell.Shell.Shell, declared.request.Decision.Decision}
 use Rattle.filterset_loading.specs.declared.request.Decision.TheVariants.{Cover, Disjoint, Partition, Same}
 use Rattle.filterset_loading.specs.Files.{is_input}

@@ -2,7 +2,7 @@
 use Rattle.std.specs.Prelude.{◌≡◌, ◌≢◌, ◌⊎◌, List, All, Option, Some, alloc_error, [], None}
 use Rattle.std.specs.{declared.io.Error.Error, Borrow.Bor}
 use Rattle.serde_json.specs.{Data.Data, Read.read, View.view}
-use Rattle.filterset_drawing.specs.Columns.{Text}
+use Rattle.filterset_display.specs.Columns.{Text}
 use Rattle.filterset_graph.specs.{Packages.ids, declared.package.PackageMetadata.PackageMetadata}
 use Rattle.filterset_sources.specs.{Metadata.IsMetadata, Metadata.RefusesMetadata, Platforms.WrongPlatforms}
 use Rattle.filterset_sources.specs.Refusals.{Refuses, RefusesJson}

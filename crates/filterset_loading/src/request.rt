@@ -7,7 +7,7 @@ use crate::files::is_input;
 use crate::profile::ProfileRequest;
 use crate::shell::Shell;
 use crate::workspace::WorkspacePaths;
-use filterset_drawing::Form;
+use filterset_display::Form;
 use filterset_faults::FiltersetKind;
 use filterset_sources::RunIgnored;
 

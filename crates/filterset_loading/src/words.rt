@@ -1,7 +1,7 @@
 //! What the words of the command line ask for.
 ghost use Rattle.std.specs.Prelude.{◌≡◌, ◌⊎◌, IfErr, IfOk, codes, map};
 ghost use Rattle.clap.specs.{Words.found_of, declared.parser.matches.Found.Found};
-ghost use Rattle.filterset_drawing.specs.Columns.{Text};
+ghost use Rattle.filterset_display.specs.Columns.{Text};
 ghost use Rattle.filterset_loading.specs.Words.{input_count, ArePathsAsked, AreTextsAsked, AreWarningsAsked, IsAsked, IsAskedBy, IsColorAsked, IsFaultOf, IsFormAsked, IsGivenFault, IsKindAsked, IsProfileAsked, IsQuestionAsked, IsRunIgnoredAsked, IsTask, IsTextAsked, IsUnasked, IsWordsFault, IsWorkspaceAsked, NamesNoShell, decision_name, given_texts, has_input};
 ghost use Rattle.filterset_loading.specs.Scripts.{name_of};
 
@@ -15,7 +15,7 @@ use crate::request::{
 use crate::shell::Shell;
 use crate::workspace::WorkspacePaths;
 use clap::ArgMatches;
-use filterset_drawing::{Color, Form};
+use filterset_display::{Color, Form};
 use filterset_faults::FiltersetKind;
 use filterset_sources::RunIgnored;
 

@@ -5,7 +5,7 @@ use Rattle.std.specs.{List.IsDistinct, List.list_any, Str.bytes_eq, Cmp.Lexicogr
 use Rattle.std.proofs.lemmas.{Bool.false≢true, Bool.Decides.nat_tests, List.length-map, List.map-append, List.map_more}
 use Rattle.std.proofs.lemmas.List.Elements.{Contains-append_left, Contains-push, Contains-push_cases}
 use Rattle.std.proofs.lemmas.{Map.Keys.IsDistinct-push, Map.Views.Contains-from_any, Slice.Eq.bytes_eq-Decides}
-use Rattle.filterset_editor.specs.Positions.{Text}
+use Rattle.filterset_display.specs.Positions.{Text}
 use Rattle.filterset_offers.specs.Names.{IsGathered, limit, may_offer}
 
 abbrev text : Bor Text → Text

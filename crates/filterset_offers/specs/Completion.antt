@@ -5,8 +5,8 @@ use Rattle.serde_json.specs.Data.{Data, array, boolean, member, no_members, null
 use Rattle.serde_json.specs.View.{items_of}
 use Rattle.filterset_entries.specs.{Checked.TextRow, Placements.TextSpot, Placements.span_in}
 use Rattle.filterset_documents.specs.{Edits.edit_data, Filtersets.is_in, Filtersets.is_row_at, Ranges.IsRange}
-use Rattle.filterset_editor.specs.Positions.{IsOffset, Text}
-use Rattle.filterset_editor.specs.declared.positions.{Encoding.Encoding, Position.Position}
+use Rattle.filterset_display.specs.Positions.{IsOffset, Text}
+use Rattle.filterset_display.specs.declared.positions.{Encoding.Encoding, Position.Position}
 use Rattle.filterset_names.specs.Workspaces.{WorkspaceRow}
 use Rattle.filterset_offers.specs.Candidates.{Row, all_rows}
 use Rattle.filterset_offers.specs.{Gaps.text_offset, Names.AreKnown, Names.may_lack}

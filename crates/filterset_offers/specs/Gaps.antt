@@ -2,7 +2,7 @@
 use Rattle.std.specs.Prelude.{ℕ, ◌+◌, ◌-◌, Bool, drop, length, nat_le, take}
 use Rattle.std.specs.List.{prefix_len, suffix_len}
 use Rattle.filterset_entries.specs.Placements.{TextSpot, line, literal}
-use Rattle.filterset_editor.specs.Positions.{Text}
+use Rattle.filterset_display.specs.Positions.{Text}
 use Rattle.filterset_faults.specs.{Span.span, declared.span.SourceSpan.SourceSpan}
 use Rattle.filterset_configuration.specs.declared.stretch.Stretch.{Stretch}
 use Rattle.filterset_offers.specs.Candidates.{is_name_byte, is_word_byte}

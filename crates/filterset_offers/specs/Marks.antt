@@ -1,7 +1,7 @@
 -- How a tree shows that a candidate stands where it may.
 use Rattle.std.specs.Prelude.{ℕ, ◌-◌, ◌==◌, ◌&&◌, Bool, false, true, Option, None, Some, codes, filter, is_some, length, nat_le, nat_lt, not}
 use Rattle.std.specs.Str.{bytes_eq}
-use Rattle.filterset_editor.specs.Positions.{Text}
+use Rattle.filterset_display.specs.Positions.{Text}
 use Rattle.filterset_faults.specs.Span.{length_of, offset_of}
 use Rattle.filterset_faults.specs.declared.{kind.FiltersetKind.FiltersetKind, span.SourceSpan.SourceSpan}
 use Rattle.filterset_faults.specs.declared.kind.FiltersetKind.TheVariants as kinds

@@ -1,7 +1,7 @@
 -- Which names of a workspace may be offered.
 use Rattle.std.specs.Prelude.{◌≡◌, ◌≤◌, ◌<◌, ◌++◌, ◌&&◌, ◌==◌, ℕ, Bool, Contains, IsTrue, List, [], Option, None, Some, length, map, nat_le, not}
 use Rattle.std.specs.{List.IsDistinct, List.list_all, List.starts_with, Str.bytes_eq}
-use Rattle.filterset_editor.specs.Positions.{Text}
+use Rattle.filterset_display.specs.Positions.{Text}
 use Rattle.filterset_names.specs.{Names.names_in, Workspaces.WorkspaceRow, declared.names.Named.Named}
 use Rattle.filterset_names.specs.declared.names.Named.TheVariants.{Binary, BinaryId, Package, Test}
 use Rattle.filterset_offers.specs.Candidates.{Row, is_name_byte, naming}

@@ -1,7 +1,7 @@
 -- Which candidates stand where they are put.
 use Rattle.std.specs.Prelude.{◌≡◌, ◌-◌, ◌++◌, ◌==◌, ◌&&◌, ℕ, Bool, true, false, List, [], MatchBool, length, not, replicate, slice_index, if◌then◌else◌}
 use Rattle.std.specs.List.{count_by, starts_with}
-use Rattle.filterset_editor.specs.Positions.{Text}
+use Rattle.filterset_display.specs.Positions.{Text}
 use Rattle.filterset_faults.specs.{Span.offset_of, declared.kind.FiltersetKind.FiltersetKind}
 use Rattle.filterset_documents.specs.Filtersets.{OfTree}
 use Rattle.filterset_names.specs.Sieves.{Sieves}

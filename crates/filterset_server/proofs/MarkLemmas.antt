@@ -2,7 +2,7 @@
 use Rattle.std.proofs.Common.{◌≡◌, ℕ, ◌+◌, ◌<◌, ◌∙◌, ◌++◌, List, ap, append_assoc, drop, get_or, length, sym, take}
 use Rattle.std.proofs.lemmas.List.{drop_more, get_or_default}
 use Rattle.serde_json.specs.Data.{Data}
-use Rattle.filterset_editor.specs.declared.positions.Position.{Position}
+use Rattle.filterset_display.specs.declared.positions.Position.{Position}
 use Rattle.filterset_documents.specs.Joins.{Joins}
 use Rattle.filterset_documents.proofs.JoinLemmas.{Joins-items}
 use Rattle.filterset_server.specs.{Highlights.mark_data, Highlights.marks_data, declared.highlighting.Mark.Mark}

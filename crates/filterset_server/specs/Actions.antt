@@ -7,11 +7,11 @@ use Rattle.filterset_entries.specs.Checked.{TextRow}
 use Rattle.filterset_documents.specs.{Contents.ContentRow, Diagnostics.IsRemarkAt, Diagnostics.fault_span}
 use Rattle.filterset_documents.specs.{Edits.edit_data, Filtersets.stretch_at, Filtersets.stretch_span, Joins.Joins}
 use Rattle.filterset_documents.specs.Ranges.{IsRangeOf, range_data}
-use Rattle.filterset_drawing.specs.Remarks.{fault_remark}
+use Rattle.filterset_display.specs.Remarks.{fault_remark}
 use Rattle.filterset_faults.specs.Faults.{span_of}
 use Rattle.filterset_faults.specs.declared.{error.ParseSingleError.ParseSingleError, span.SourceSpan.SourceSpan}
-use Rattle.filterset_editor.specs.Positions.{IsOffset, Text}
-use Rattle.filterset_editor.specs.declared.{edits.Change.Change, positions.Encoding.Encoding, positions.Range.Range}
+use Rattle.filterset_display.specs.Positions.{IsOffset, Text}
+use Rattle.filterset_display.specs.declared.{edits.Change.Change, positions.Encoding.Encoding, positions.Range.Range}
 use Rattle.filterset_grammar.specs.{AddedParens.IsWithParens, Printing.printed, Tree.Tree}
 use Rattle.filterset_language.specs.Parsed.{IsUnreadWith}
 use Rattle.filterset_rewriting.specs.{Nesting.Depth.IsTooDeep, Nesting.Depth.most_levels, Reading.IsRead, Showing.shown}

@@ -3,7 +3,7 @@ use Rattle.std.specs.Prelude.{◌≡◌, List, [], ◌∷◌, codes, nat_lt, if�
 use Rattle.serde_json.specs.Data.{Data, array, number, unsigned, object, member, no_members}
 use Rattle.serde_json.specs.View.{items_of}
 use Rattle.filterset_entries.specs.Checked.{TextRow}
-use Rattle.filterset_editor.specs.{Positions.Text, declared.positions.Encoding.Encoding, declared.positions.Range.Range}
+use Rattle.filterset_display.specs.{Positions.Text, declared.positions.Encoding.Encoding, declared.positions.Range.Range}
 use Rattle.filterset_documents.specs.{Filtersets.place_span, Joins.Joins, Ranges.IsRangeOf}
 
 -- what is folded of a range: the lines from its start to its end, if these are several

@@ -3,7 +3,7 @@ use Rattle.std.specs.Prelude.{◌≡◌, ◌⊎◌, Bool, List, MatchBool, Match
 use Rattle.std.specs.List.{AllZip}
 use Rattle.serde_json.specs.Data.{Data, null}
 use Rattle.filterset_entries.specs.Checked.{TextRow}
-use Rattle.filterset_editor.specs.{Positions.Text, declared.positions.Encoding.Encoding}
+use Rattle.filterset_display.specs.{Positions.Text, declared.positions.Encoding.Encoding}
 use Rattle.filterset_grammar.specs.Printing.{printed}
 use Rattle.filterset_documents.specs.{Filtersets.OfTree, Contents.Becomes, Contents.ContentRow}
 use Rattle.filterset_documents.specs.Edits.{AreEdits, AreEditsOf, AreRewrites, EditRow, edited}

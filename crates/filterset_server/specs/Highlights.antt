@@ -4,8 +4,8 @@ use Rattle.std.specs.List.Sorted.{IsNonDecreasingBy, IsPermutation}
 use Rattle.serde_json.specs.Data.{Data, array, number, unsigned, object, member, no_members}
 use Rattle.serde_json.specs.View.{items_of}
 use Rattle.filterset_entries.specs.{Checked.TextRow, Placements.Placement, Placements.file_part}
-use Rattle.filterset_editor.specs.Positions.{Text}
-use Rattle.filterset_editor.specs.declared.positions.{Encoding.Encoding, Position.Position, Range.Range}
+use Rattle.filterset_display.specs.Positions.{Text}
+use Rattle.filterset_display.specs.declared.positions.{Encoding.Encoding, Position.Position, Range.Range}
 use Rattle.filterset_faults.specs.Span.{offset_of}
 use Rattle.filterset_documents.specs.{Filtersets.OfTree, Joins.Joins, Ranges.IsRangeOf}
 use Rattle.filterset_rewriting.specs.Tokens.{AreTokens}

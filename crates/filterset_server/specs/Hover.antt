@@ -3,9 +3,9 @@ use Rattle.std.specs.Prelude.{◌≡◌, ◌++◌, ℕ, Bool, List, MatchOption,
 use Rattle.std.specs.Option.{option_map_or}
 use Rattle.serde_json.specs.Data.{Data, string, object, member, no_members, null}
 use Rattle.filterset_entries.specs.{Checked.TextRow, Placements.Placement, Placements.file_part}
-use Rattle.filterset_drawing.specs.declared.source.FileSpan.{FileSpan}
-use Rattle.filterset_editor.specs.Positions.{IsOffset, Text}
-use Rattle.filterset_editor.specs.declared.positions.{Encoding.Encoding, Position.Position}
+use Rattle.filterset_display.specs.declared.source.FileSpan.{FileSpan}
+use Rattle.filterset_display.specs.Positions.{IsOffset, Text}
+use Rattle.filterset_display.specs.declared.positions.{Encoding.Encoding, Position.Position}
 use Rattle.filterset_faults.specs.declared.span.SourceSpan.{SourceSpan}
 use Rattle.filterset_grammar.specs.Tree.{Leaf, tree_leaves}
 use Rattle.filterset_language.specs.Faults.{leaf_span}

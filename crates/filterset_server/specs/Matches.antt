@@ -1,7 +1,7 @@
 -- What predicates match in a workspace, as Markdown.
 use Rattle.std.specs.Prelude.{◌≡◌, ◌-◌, ◌++◌, ℕ, zero, suc, [], Option, None, Some, codes, decimal, length, map}
 use Rattle.std.specs.List.{flat_map}
-use Rattle.filterset_editor.specs.Positions.{Text}
+use Rattle.filterset_display.specs.Positions.{Text}
 use Rattle.filterset_grammar.specs.Tree.{Leaf}
 use Rattle.filterset_names.specs.{Matched.MatchesLeaf, Workspaces.WorkspaceRow, declared.matched.Matched.Matched}
 use Rattle.filterset_names.specs.declared.matched.Matched.TheVariants.{Binaries, Packages, Tests}

@@ -2,7 +2,7 @@
 use Rattle.std.specs.Prelude.{◌-◌, ◌&&◌, ℕ, Bool, None, Option, length, nat_le}
 use Rattle.filterset_entries.specs.Placements.{Placement, placement_of}
 use Rattle.filterset_documents.specs.Contents.{ContentRow, content_row}
-use Rattle.filterset_editor.specs.{Positions.Text, declared.positions.Encoding.Encoding}
+use Rattle.filterset_display.specs.{Positions.Text, declared.positions.Encoding.Encoding}
 use Rattle.filterset_faults.specs.{Span.length_of, Span.offset_of}
 use Rattle.filterset_faults.specs.declared.{error.ParseSingleError.ParseSingleError, span.SourceSpan.SourceSpan}
 use Rattle.filterset_server.specs.Repairs.{RepairRow, repair_row}

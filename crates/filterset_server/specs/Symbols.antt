@@ -3,7 +3,7 @@ use Rattle.std.specs.{Prelude.◌≡◌, Prelude.List, Prelude.codes, List.AllZi
 use Rattle.serde_json.specs.Data.{Data, array, number, unsigned, string, object, member, no_members}
 use Rattle.serde_json.specs.View.{items_of}
 use Rattle.filterset_entries.specs.Checked.{TextRow}
-use Rattle.filterset_editor.specs.{Positions.Text, declared.positions.Encoding.Encoding, declared.positions.Range.Range}
+use Rattle.filterset_display.specs.{Positions.Text, declared.positions.Encoding.Encoding, declared.positions.Range.Range}
 use Rattle.filterset_documents.specs.{Filtersets.place_span, Ranges.IsRangeOf, Ranges.range_data}
 
 -- a string (15) with this name, in a range

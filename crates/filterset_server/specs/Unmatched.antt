@@ -6,8 +6,8 @@ use Rattle.filterset_entries.specs.{Checked.TextRow, Placements.Placement}
 use Rattle.filterset_documents.specs.Contents.{ContentRow, Holds}
 use Rattle.filterset_documents.specs.Diagnostics.{DiagnosesContent, IsDiagnostic, IsRefusalAt}
 use Rattle.filterset_documents.specs.{Filtersets.OfTree, Filtersets.is_list, Joins.Joins}
-use Rattle.filterset_drawing.specs.declared.remark.Severity.TheVariants.{Warning}
-use Rattle.filterset_editor.specs.{Documents.DocumentRow, Positions.Text, declared.positions.Encoding.Encoding}
+use Rattle.filterset_display.specs.declared.remark.Severity.TheVariants.{Warning}
+use Rattle.filterset_display.specs.{Documents.DocumentRow, Positions.Text, declared.positions.Encoding.Encoding}
 use Rattle.filterset_faults.specs.declared.span.SourceSpan.{SourceSpan}
 use Rattle.filterset_grammar.specs.Tree.{Leaf, Matching, tree_leaves}
 use Rattle.filterset_grammar.specs.declared.predicate.Predicate.TheVariants.{Test}

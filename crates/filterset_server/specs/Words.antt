@@ -1,6 +1,6 @@
 -- What predicates mean, in words, as Markdown.
 use Rattle.std.specs.Prelude.{◌++◌, ◌==◌, [], ◌∷◌, codes, filter, slice_index, if◌then◌else◌}
-use Rattle.filterset_editor.specs.Positions.{Text}
+use Rattle.filterset_display.specs.Positions.{Text}
 use Rattle.filterset_grammar.specs.{Printing.printed_leaf, Tree.Leaf, Tree.Matching, Tree.Platform, Tree.Default}
 use Rattle.filterset_grammar.specs.declared.predicate.Predicate.{Predicate}
 use Rattle.filterset_grammar.specs.declared.predicate.Predicate.TheVariants.{Package, Deps, Rdeps, Kind, Binary, BinaryId, Test, Group}

@@ -4,8 +4,8 @@ ghost use Rattle.serde_json.specs.View.{view};
 ghost use Rattle.filterset_entries.specs.Checked.{text_row};
 ghost use Rattle.filterset_server.specs.Folding.{AreFolds, folds_of};
 
+use filterset_display::Range;
 use filterset_documents::{Shown, place_span, range_of};
-use filterset_editor::Range;
 use filterset_entries::TextEntry;
 use serde_json::{Value, json};
 use std::alloc::{AllocError, Global};

@@ -7,8 +7,8 @@ ghost use Rattle.filterset_documents.specs.Joins.{Joins};
 ghost use Rattle.filterset_server.specs.Highlights as spec;
 ghost use Rattle.filterset_server.specs.Highlights.{HighlightsRows, RowMarks, TokenMarks, mark_data, marks_data};
 
+use filterset_display::{Position, Range};
 use filterset_documents::{Shown, parse_text, range_of};
-use filterset_editor::{Position, Range};
 use filterset_entries::{FilePlace, TextEntry, file_part};
 use filterset_rewriting::tokens::{Token, TokenKind, tokens_of};
 use serde_json::{Value, json};

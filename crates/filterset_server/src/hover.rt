@@ -8,9 +8,8 @@ ghost use Rattle.filterset_server.specs.Hover.{HoversLeaf, HoversRow, HoversRows
 
 use crate::matches::leaf_matches;
 use crate::words::leaf_text;
+use filterset_display::{FileSpan, Position};
 use filterset_documents::{Shown, entry_at, is_in, leaf_span, parse_text, span_value};
-use filterset_drawing::FileSpan;
-use filterset_editor::Position;
 use filterset_entries::{FilePlace, TextEntry, file_part};
 use filterset_language::ParsedLeaf;
 use filterset_names::Workspace;

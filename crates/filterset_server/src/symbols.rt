@@ -5,8 +5,8 @@ ghost use Rattle.filterset_entries.specs.Checked.{text_row};
 ghost use Rattle.filterset_documents.specs.Ranges.{range_data};
 ghost use Rattle.filterset_server.specs.Symbols.{AreSymbols, symbol_data};
 
+use filterset_display::Range;
 use filterset_documents::{Shown, place_span, range_of, range_value};
-use filterset_editor::Range;
 use filterset_entries::TextEntry;
 use serde_json::{Value, json};
 use std::alloc::{AllocError, Global};

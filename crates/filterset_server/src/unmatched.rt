@@ -8,8 +8,8 @@ ghost use Rattle.filterset_names.specs.Workspaces.{known_of, workspace_row};
 ghost use Rattle.filterset_server.specs.Unmatched.{LeafWarnings, RowWarnings, RowsWarnings, WarnsOfLeaf, is_skipped, skipped_for};
 
 use crate::hover::leaf_part;
+use filterset_display::Severity;
 use filterset_documents::{Shown, diagnostic_at, parse_text};
-use filterset_drawing::Severity;
 use filterset_entries::{FilePlace, TextEntry};
 use filterset_language::ParsedLeaf;
 use filterset_listing::UnmatchedPredicate;

@@ -8,9 +8,8 @@ ghost use Rattle.filterset_server.specs.Subjects.{proposal_row, target_row};
 
 use crate::subject::Proposal;
 use crate::target::Target;
+use filterset_display::{Range, Remark};
 use filterset_documents::{fault_span, range_value, remark_value};
-use filterset_drawing::Remark;
-use filterset_editor::Range;
 use filterset_faults::ParseSingleError;
 use serde_json::{Map, Value, json, put};
 use std::alloc::{AllocError, Global};

@@ -3,7 +3,7 @@ use Rattle.std.proofs.Common.{◌≡◌, ◌∙◌, ◌↔◌, ◌⊎◌, Bor, G
 use Rattle.std.specs.{List.Contains, List.Sorted.IsPermutation, Prelude.codes}
 use Rattle.std.proofs.lemmas.List.Sorted.{Contains-permutation, IsPermutation-sym}
 use Rattle.filterset_deciding.proofs.{Doubts.contains_first, Doubts.contains_later, Rules.contains_cases}
-use Rattle.filterset_drawing.specs.Columns.{Text}
+use Rattle.filterset_display.specs.Columns.{Text}
 use Rattle.nextest_filtering.proofs.Members.{from_mapped, mapped}
 
 -- the elements of a list in another order have the same texts

@@ -2,7 +2,7 @@
 use Rattle.std.proofs.Common.{Global, List, String, [], ◌∷◌, map, string_bytes}
 use Rattle.std.specs.List.{AllZip}
 use Rattle.filterset_answers.specs.Picking.{compiled_of, parsed_of}
-use Rattle.filterset_drawing.specs.Columns.{Text}
+use Rattle.filterset_display.specs.Columns.{Text}
 use Rattle.filterset_expression.specs.Meaning.{IsCompiled}
 use Rattle.filterset_expression.specs.declared.{expression.CompiledExpr.CompiledExpr, query.TestQuery.TestQuery}
 use Rattle.filterset_graph.specs.declared.package.PackageMetadata.{PackageMetadata}

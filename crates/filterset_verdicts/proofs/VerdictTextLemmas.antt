@@ -1,6 +1,6 @@
 -- Texts that are written in pieces.
 use Rattle.std.proofs.Common.{◌≡◌, ◌∙◌, ◌++◌, ap, append_assoc}
-use Rattle.filterset_drawing.specs.Columns.{Text}
+use Rattle.filterset_display.specs.Columns.{Text}
 
 -- two pieces, one after the other
 pub joined : (s t u x y : Text) → t ≡ s ++ x → u ≡ t ++ y → u ≡ s ++ (x ++ y)

@@ -7,7 +7,7 @@ use Rattle.filterset_entries.specs.Entries.{default_row, numbered_rows, test_row
 use Rattle.filterset_entries.specs.declared.{entries.ConfiguredTexts.ConfiguredTexts, setting.Setting.Setting}
 use Rattle.filterset_entries.specs.{declared.text.Ending.Ending, Profile.chosen}
 use Rattle.filterset_entries.specs.declared.profile.ChosenFilter.{ChosenFilter}
-use Rattle.filterset_drawing.specs.Columns.{Text}
+use Rattle.filterset_display.specs.Columns.{Text}
 use Rattle.filterset_faults.specs.declared.kind.FiltersetKind.TheVariants as kinds
 use Rattle.filterset_graph.specs.declared.package.PackageMetadata.{PackageMetadata}
 use Rattle.filterset_configuration.specs.{PlatformTrees.facts_of, Lineages.Lineage}

@@ -4,7 +4,7 @@ use Rattle.std.specs.{List.AllZip, List.flat_map, Str.Lines.lines}
 use Rattle.filterset_answers.specs.Picking.{compiled_of, parsed_of}
 use Rattle.filterset_deciding.specs.Deciding.{IsAbout}
 use Rattle.filterset_deciding.specs.declared.deciding.Verdict.{Verdict, TheVariants.Fails}
-use Rattle.filterset_drawing.specs.Columns.{Text}
+use Rattle.filterset_display.specs.Columns.{Text}
 use Rattle.filterset_expression.specs.Meaning.{IsCompiled}
 use Rattle.filterset_expression.specs.declared.{expression.CompiledExpr.CompiledExpr, query.TestQuery.TestQuery}
 use Rattle.filterset_faults.specs.declared.span.SourceSpan.{SourceSpan}

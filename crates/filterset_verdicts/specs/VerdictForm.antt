@@ -1,7 +1,7 @@
 -- Verdicts in the form that is asked for.
 use Rattle.std.specs.Prelude.{◌≡◌, ◌++◌, Bool, List, codes}
 use Rattle.serde_json.specs.{Data.Data, Written.compact_text}
-use Rattle.filterset_drawing.specs.{declared.remark.Form.Form, declared.remark.Form.TheVariants.Json, Columns.Text}
+use Rattle.filterset_display.specs.{declared.remark.Form.Form, declared.remark.Form.TheVariants.Json, Columns.Text}
 use Rattle.filterset_deciding.specs.declared.{deciding.Verdict.Verdict, question.Question.Question}
 use Rattle.filterset_expression.specs.declared.expression.CompiledExpr.{CompiledExpr}
 use Rattle.filterset_faults.specs.declared.span.SourceSpan.{SourceSpan}

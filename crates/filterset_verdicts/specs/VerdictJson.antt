@@ -7,7 +7,7 @@ use Rattle.filterset_deciding.specs.declared.demand.{Demand.Demand, Doubt.Doubt,
 use Rattle.filterset_deciding.specs.declared.{question.Question.Question, witness.PossibleTest.PossibleTest}
 use Rattle.filterset_deciding.specs.declared.deciding.Verdict.TheVariants as verdicts
 use Rattle.filterset_deciding.specs.declared.question.Question.TheVariants.{AllAlike, AtLeastOne, AtMostOne, ExactlyOne}
-use Rattle.filterset_drawing.specs.Columns.{Text}
+use Rattle.filterset_display.specs.Columns.{Text}
 use Rattle.filterset_graph.specs.{Platforms.platform_text, declared.package.PackageMetadata.PackageMetadata}
 use Rattle.filterset_verdicts.specs.VerdictText.{IsPackageText, demand_text}
 

@@ -9,7 +9,7 @@ use Rattle.filterset_deciding.specs.declared.question.Question.TheVariants.{AllA
 use Rattle.filterset_deciding.specs.declared.witness.{PossibleTest.PossibleTest, Witness.Witness}
 use Rattle.filterset_deciding.specs.declared.deciding.Verdict.TheVariants as verdicts
 use Rattle.filterset_deciding.specs.declared.demand.TestField.TheVariants as fields
-use Rattle.filterset_drawing.specs.Columns.{Text}
+use Rattle.filterset_display.specs.Columns.{Text}
 use Rattle.filterset_graph.specs.{Packages.ids, Platforms.platform_text}
 use Rattle.filterset_graph.specs.declared.package.PackageMetadata.{PackageMetadata}
 use Rattle.filterset_matchers.specs.{Matchers.matcher_of, PrintedMatcher.printed_matcher}

@@ -3,7 +3,7 @@ use Rattle.std.specs.Prelude.{◌≡◌, ◌↔◌, ◌⊎◌, ◌<◌, ◌+◌,
 use Rattle.std.specs.{Borrow.Bor, List.AllZip}
 use Rattle.filterset_entries.specs.{Checked.TextRow, Checked.text_row, declared.setting.Setting.Setting}
 use Rattle.filterset_entries.specs.declared.text.Ending.{Ending, TheVariants.Differing}
-use Rattle.filterset_drawing.specs.{declared.remark.Form.Form, Columns.Text}
+use Rattle.filterset_display.specs.{declared.remark.Form.Form, Columns.Text}
 use Rattle.filterset_answers.specs.Compiled.{AnswersTexts, Telling}
 use Rattle.filterset_deciding.specs.Deciding.{IsAlwaysMet, IsUnmetAt, leaves_asked, steps_asked}
 use Rattle.filterset_deciding.specs.Demands.{HasUncompared, IsDoubtAbout}

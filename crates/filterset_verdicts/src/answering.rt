@@ -15,7 +15,7 @@ use crate::reasons::push_reasons_of;
 use crate::text::{answer_text, ending_of};
 use filterset_answers::{CompiledTexts, compile_texts};
 use filterset_deciding::{Question, Verdict, Witness, decide, find_listed};
-use filterset_drawing::Form;
+use filterset_display::Form;
 use filterset_entries::{Answer, Ending, Setting, TextEntry};
 use filterset_sources::Suite;
 use nextest_filtering::{CompiledExpr, EvalContext, Filterset, KnownGroups, PackageGraph};

@@ -13,7 +13,7 @@ use crate::answering::{TextQuestion, answer_texts};
 use crate::naming::{ResolvedEntries, filter_of, resolve, resolve_entries};
 use filterset_configuration::Profile;
 use filterset_deciding::Question;
-use filterset_drawing::Source;
+use filterset_display::Source;
 use filterset_entries::{
     Answer, ChosenFilter, ConfiguredTexts, Setting, TextEntry, answer_unknown, configured_texts,
     default_entry, entry_of, given_entries,

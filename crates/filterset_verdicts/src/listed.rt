@@ -1,7 +1,7 @@
 //! The tests of nextest's list, and the groups that they count in.
 ghost use Rattle.std.specs.Prelude.{◌≡◌, ◌↔◌, ◌++◌, Contains, IfOk, OnOk, map, string_bytes};
 ghost use Rattle.std.specs.{HashSet.keys, List.flat_map};
-ghost use Rattle.filterset_drawing.specs.Columns.{Text};
+ghost use Rattle.filterset_display.specs.Columns.{Text};
 ghost use Rattle.nextest_filtering.specs.Groups.{IsGroupName};
 ghost use Rattle.filterset_verdicts.specs.ListedTests.{listed_test, suite_tests, test_in};
 

@@ -1,7 +1,7 @@
 //! Profiles by name: `@ci` stands for the default filter of the profile `ci`.
 ghost use Rattle.std.specs.Prelude.{◌≡◌, ◌≢◌, ◌++◌, ◌∷◌, [], IfErr, IfOk, MatchOption, OnOk, codes, map};
 ghost use Rattle.filterset_entries.specs.Checked.{text_row};
-ghost use Rattle.filterset_drawing.specs.Columns.{Text};
+ghost use Rattle.filterset_display.specs.Columns.{Text};
 ghost use Rattle.filterset_faults.specs.declared.kind.FiltersetKind.TheVariants as kinds;
 ghost use Rattle.filterset_verdicts.specs.Deciding.{AreResolved, IsDefaultKind, IsFilterOf, LacksAny, LacksOwn, ResolvesTo, naming_of, outcome_of};
 ghost use Rattle.filterset_loading.specs.{Configurations.LacksName, Files.OrMemory};

@@ -2,7 +2,7 @@
 ghost use Rattle.std.specs.Prelude.{◌≡◌, ◌++◌, IfOk, OnOk, map, string_bytes};
 ghost use Rattle.std.specs.{List.AllZip, List.flat_map, Str.Lines.lines};
 ghost use Rattle.filterset_answers.specs.Picking.{compiled_of, parsed_of};
-ghost use Rattle.filterset_drawing.specs.Columns.{Text};
+ghost use Rattle.filterset_display.specs.Columns.{Text};
 ghost use Rattle.filterset_expression.specs.{Contexts.default_of, Meaning.IsCompiled};
 ghost use Rattle.filterset_verdicts.specs.Reasons.{AreReasons, IsReasonOf, PutsAll, indented_line, reason_lines};
 

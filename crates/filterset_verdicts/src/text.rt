@@ -6,7 +6,7 @@ ghost use Rattle.filterset_verdicts.specs.VerdictText.{IsPackageText, IsVerdictT
 
 use crate::json::verdict_line;
 use filterset_deciding::{Demand, Doubt, PossibleTest, Question, TestField, Verdict, Witness};
-use filterset_drawing::Form;
+use filterset_display::Form;
 use filterset_entries::Ending;
 use filterset_graph::{BuildPlatform, PackageGraph, PackageId};
 use std::alloc::{AllocError, Global};

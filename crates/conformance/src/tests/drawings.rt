@@ -1,5 +1,5 @@
 //! Faults that no program reports: spans past the end of the text, none, and texts with line feeds.
-use filterset_drawing::{Canvas, Color, Remark, Source, draw_remark, remark_json};
+use filterset_display::{Canvas, Color, Remark, Source, draw_remark, remark_json};
 use filterset_faults::{ParseSingleError, SourceSpan};
 use std::alloc::{AllocError, Global};
 use std::test::Fail;

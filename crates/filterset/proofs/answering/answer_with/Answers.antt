@@ -3,7 +3,7 @@ use Rattle.std.proofs.lemmas.Result.{IfErr-weaker, IfOk-weaker}
 use Rattle.std.specs.{Borrow.Bor, declared.io.Error.Error}
 use Rattle.filterset_asking.specs.Formatted.{FormatsTexts, SimplifiesTexts}
 use Rattle.filterset_entries.specs.{Endings.ending_of, declared.text.Ending.Ending}
-use Rattle.filterset_drawing.specs.{declared.remark.Form.Form, Columns.Text, declared.source.Source.Source}
+use Rattle.filterset_display.specs.{declared.remark.Form.Form, Columns.Text, declared.source.Source.Source}
 use Rattle.filterset_faults.specs.declared.kind.FiltersetKind.{FiltersetKind}
 use Rattle.filterset_faults.specs.declared.kind.FiltersetKind.TheVariants as kinds
 use Rattle.filterset_asking.specs.Checking.{AnswersCheck, IsCheckFault}

@@ -1,5 +1,5 @@
 use Rattle.std.proofs.Common.{◌∙◌, ap, map}
-use Rattle.filterset_drawing.specs.Remarks.{remark_row}
+use Rattle.filterset_display.specs.Remarks.{remark_row}
 use Rattle.filterset_answers.specs.Answers.{has_some}
 use Rattle.filterset_answers.proofs.checking.push_text.Goals as goal
 

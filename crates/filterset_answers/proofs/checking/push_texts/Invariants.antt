@@ -1,5 +1,5 @@
 use Rattle.std.proofs.Common.{◌≡◌, ◌≤◌, ◌++◌, map, string_bytes, take}
-use Rattle.filterset_drawing.specs.Columns.{Text}
+use Rattle.filterset_display.specs.Columns.{Text}
 use Rattle.filterset_answers.specs.Answers.{FaultsOf}
 use Rattle.filterset_entries.specs.Checked.{HasFaults, text_row}
 use Rattle.filterset_answers.proofs.checking.push_texts.Given as goal

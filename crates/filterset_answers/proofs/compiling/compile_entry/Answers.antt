@@ -1,5 +1,5 @@
 use Rattle.std.proofs.Common.{rules, ◌≡◌, map, subst}
-use Rattle.filterset_drawing.specs.Remarks.{remark_row}
+use Rattle.filterset_display.specs.Remarks.{remark_row}
 use Rattle.filterset_entries.specs.{Checked.all_remarks, Checked.text_row, Forms.FaultPieces}
 use Rattle.filterset_answers.proofs.compiling.compile_entry.Goals as goal
 

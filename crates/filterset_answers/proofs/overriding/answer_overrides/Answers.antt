@@ -1,6 +1,6 @@
 use Rattle.std.proofs.Common.{◌∙◌, ◌++◌, ap, string_bytes, subst, sym}
 use Rattle.std.specs.List.{AllZip}
-use Rattle.filterset_drawing.specs.Columns.{Text}
+use Rattle.filterset_display.specs.Columns.{Text}
 use Rattle.filterset_expression.specs.{Meaning.IsCompiled, declared.expression.CompiledExpr.CompiledExpr}
 use Rattle.filterset_entries.specs.Endings.{unknown_ending}
 use Rattle.filterset_answers.specs.Overriding.{Counts, uncounted_text}

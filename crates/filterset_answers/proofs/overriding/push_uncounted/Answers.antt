@@ -1,5 +1,5 @@
 use Rattle.std.proofs.Common.{◌≡◌, ◌∙◌, ◌++◌, ap, append_assoc}
-use Rattle.filterset_drawing.specs.Columns.{Text}
+use Rattle.filterset_display.specs.Columns.{Text}
 use Rattle.filterset_answers.proofs.overriding.push_uncounted.Goals as goal
 
 -- three parts are written one after the other

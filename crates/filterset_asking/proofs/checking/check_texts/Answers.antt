@@ -1,7 +1,7 @@
 use Rattle.std.proofs.Common.{rules, ◌≡◌, ◌∙◌, List, ap, inr, string_bytes, subst, sym}
 use Rattle.std.proofs.lemmas.Result.{IfErr-weaker, IfOk-weaker}
 use Rattle.std.specs.{Borrow.Bor, Prelude.IfSome, Prelude.None, Prelude.Option, Prelude.Some, Prelude.is_some}
-use Rattle.filterset_drawing.specs.{Columns.Text, declared.source.Source.Source}
+use Rattle.filterset_display.specs.{Columns.Text, declared.source.Source.Source}
 use Rattle.filterset_configuration.specs.declared.place.Place.{Place}
 use Rattle.filterset_sources.specs.{Configurations.IsConfiguration, declared.configuration.Configuration.Configuration}
 use Rattle.filterset_asking.specs.Checking.{IsCheckFault, IsUnchecked, KnownConfiguration}

@@ -1,6 +1,6 @@
 use Rattle.std.proofs.Common.{rules, ◌≡◌, ◌++◌, [], codes, inl, inr, map, refl, sym, string_bytes, subst}
 use Rattle.std.proofs.lemmas.List.{append-nil}
-use Rattle.filterset_drawing.specs.Remarks.{remark_row}
+use Rattle.filterset_display.specs.Remarks.{remark_row}
 use Rattle.filterset_json.specs.Pieces.{no_pieces}
 use Rattle.filterset_grammar.specs.Printing.{printed}
 use Rattle.filterset_language.specs.Views.{tree_of}

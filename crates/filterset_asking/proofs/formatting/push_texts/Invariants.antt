@@ -1,5 +1,5 @@
 use Rattle.std.proofs.Common.{◌≡◌, ◌≤◌, ◌++◌, map, string_bytes, take}
-use Rattle.filterset_drawing.specs.Columns.{Text}
+use Rattle.filterset_display.specs.Columns.{Text}
 use Rattle.filterset_json.specs.Pieces.{Pieces}
 use Rattle.filterset_answers.specs.Answers.{FaultsOf}
 use Rattle.filterset_asking.specs.Formatted.{FormattedLine}

@@ -1,5 +1,5 @@
 use Rattle.std.proofs.Common.{◌≡◌, ◌++◌, map, take}
-use Rattle.filterset_drawing.specs.Remarks.{remark_row}
+use Rattle.filterset_display.specs.Remarks.{remark_row}
 use Rattle.filterset_listing.specs.Finding.{found_of}
 use Rattle.filterset_asking.specs.Warnings.{needless_remark}
 use Rattle.filterset_asking.proofs.hints.add_needless.Given as goal

@@ -1,5 +1,5 @@
 use Rattle.std.proofs.Common.{◌≡◌, ◌++◌, map, take}
-use Rattle.filterset_drawing.specs.Remarks.{remark_row}
+use Rattle.filterset_display.specs.Remarks.{remark_row}
 use Rattle.filterset_listing.specs.Finding.{unmatched_of}
 use Rattle.filterset_asking.specs.Warnings.{unmatched_remark}
 use Rattle.filterset_asking.proofs.hints.add_unmatched.Given as goal

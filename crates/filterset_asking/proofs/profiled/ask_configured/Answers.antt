@@ -1,6 +1,6 @@
 use Rattle.std.proofs.Common.{◌∙◌, ◌⊎◌, ap, inl, inr}
 use Rattle.std.proofs.lemmas.Result.{IfErr-weaker, IfOk-weaker}
-use Rattle.filterset_drawing.specs.{Columns.Text, declared.source.Source.Source}
+use Rattle.filterset_display.specs.{Columns.Text, declared.source.Source.Source}
 use Rattle.filterset_asking.specs.Asking.{Lacks}
 use Rattle.filterset_loading.specs.Configurations.{IsProfileFault, LacksProfile}
 use Rattle.filterset_loading.specs.declared.fault.CommandFault.{CommandFault}

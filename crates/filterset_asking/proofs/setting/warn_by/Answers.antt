@@ -1,7 +1,7 @@
 use Rattle.std.proofs.Common.{◌∙◌, ◌+◌, List, [], ◌++◌, ap, inl, map, subst}
 use Rattle.filterset_entries.specs.Checked.{text_row}
 use Rattle.filterset_answers.proofs.PickingLemmas.{basis_of}
-use Rattle.filterset_drawing.specs.Columns.{Text}
+use Rattle.filterset_display.specs.Columns.{Text}
 use Rattle.filterset_expression.specs.{Contexts.default_of, declared.expression.CompiledExpr.CompiledExpr}
 use Rattle.filterset_graph.specs.declared.package.PackageMetadata.{PackageMetadata}
 use Rattle.filterset_listing.specs.{Subjects.AreSubjects, declared.groups.GroupOverride.GroupOverride}

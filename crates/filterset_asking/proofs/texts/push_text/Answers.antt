@@ -1,7 +1,7 @@
 use Rattle.std.proofs.Common.{rules, arith, ◌≡◌, [], ap, length, map, refl, sym}
 use Rattle.std.proofs.lemmas.List.{append-nil, length-map}
 use Rattle.nextest_filtering.specs.Compiling.{packages_of}
-use Rattle.filterset_drawing.specs.Remarks.{remark_row}
+use Rattle.filterset_display.specs.Remarks.{remark_row}
 use Rattle.filterset_listing.specs.Finding.{found_of, unmatched_of}
 use Rattle.filterset_language.specs.Views.{tree_of}
 use Rattle.filterset_asking.specs.Warnings.{of_faulty, of_filterset, remarks_of}

@@ -1,6 +1,6 @@
 use Rattle.std.proofs.Common.{◌≡◌, ◌++◌, map, string_bytes, take}
 use Rattle.filterset_entries.specs.Checked.{text_row}
-use Rattle.filterset_drawing.specs.Columns.{Text}
+use Rattle.filterset_display.specs.Columns.{Text}
 use Rattle.filterset_asking.specs.{Contexts.basis_of, Warnings.WarningsOf}
 use Rattle.filterset_asking.proofs.texts.warn_texts.Given as goal
 

@@ -3,7 +3,7 @@ use Rattle.std.proofs.lemmas.List.{take_more}
 use Rattle.filterset_json.proofs.PieceLemmas.{Pieces-push}
 use Rattle.filterset_json.specs.Pieces.{Pieces, no_pieces}
 use Rattle.filterset_configuration.specs.declared.wrong.WrongValue.{WrongValue}
-use Rattle.filterset_drawing.specs.Columns.{Text}
+use Rattle.filterset_display.specs.Columns.{Text}
 use Rattle.filterset_asking.specs.Values.{IsValuePiece}
 use Rattle.filterset_asking.proofs.values.add_values.Goals as goal
 

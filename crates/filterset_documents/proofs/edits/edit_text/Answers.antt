@@ -1,7 +1,7 @@
 use Rattle.std.proofs.Common.{rules, arith, ◌≡◌, ◌+◌, ◌-◌, ◌<◌, ◌∙◌, ◌∷◌, ◌++◌, List, ap, drop, get_or, length, map, refl, string_bytes, subst, sym, take}
 use Rattle.std.proofs.lemmas.{List.drop-drop, List.drop_more, Str.IsUtf8-drop}
 use Rattle.std.specs.Str.{IsUtf8}
-use Rattle.filterset_editor.specs.Positions.{Text}
+use Rattle.filterset_display.specs.Positions.{Text}
 use Rattle.filterset_documents.specs.Edits.{EditRow, IsWithin, edit_row, edited, edited_from}
 use Rattle.filterset_documents.proofs.EditLemmas.{AreLeft, in_text, left_more, left_next, left_within, made_more}
 use Rattle.filterset_documents.proofs.edits.edit_text.Goals as goal

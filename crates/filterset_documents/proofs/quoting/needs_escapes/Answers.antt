@@ -2,7 +2,7 @@ use Rattle.std.proofs.Common.{◌≡◌, ◌==◌, ◌||◌, ◌<◌, ◌≤◌,
 use Rattle.std.proofs.lemmas.{Bool.Decides.Decides-eqb, Bool.Decides.same_from_decides, List.get_or_default}
 use Rattle.std.proofs.lemmas.{List.Folds.Any-from_list_any, List.Folds.list_any_at, Str.Pattern.contains_char}
 use Rattle.std.specs.{List.list_any, Prelude.MatchBool, Prelude.None, Prelude.Some, Str.Pattern.FindsChar}
-use Rattle.filterset_editor.specs.Positions.{Text}
+use Rattle.filterset_display.specs.Positions.{Text}
 use Rattle.filterset_documents.proofs.quoting.needs_escapes.Goals as goal
 
 -- the search for an ASCII character finds whether the text has its byte

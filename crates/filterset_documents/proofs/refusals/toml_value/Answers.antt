@@ -4,7 +4,7 @@ use Rattle.toml.specs.Errors.{span_end, span_start}
 use Rattle.serde_json.specs.View.{view}
 use Rattle.filterset_faults.specs.{Span.span, declared.span.SourceSpan.SourceSpan}
 use Rattle.filterset_documents.specs.Diagnostics.{IsDiagnostic}
-use Rattle.filterset_drawing.specs.declared.remark.Severity.TheVariants.{Error}
+use Rattle.filterset_display.specs.declared.remark.Severity.TheVariants.{Error}
 use Rattle.filterset_documents.proofs.refusals.toml_value.Goals as goal
 
 pub returns : goal.returns

@@ -1,7 +1,7 @@
 use Rattle.std.proofs.Common.{rules, arith, ◌≡◌, ◌<◌, get_or, length, option_map}
 use Rattle.std.proofs.lemmas.List.{take_all}
 use Rattle.serde_json.specs.View.{view}
-use Rattle.filterset_drawing.specs.Remarks.{remark_row}
+use Rattle.filterset_display.specs.Remarks.{remark_row}
 use Rattle.filterset_entries.specs.Placements.{placement_of}
 use Rattle.filterset_documents.specs.Diagnostics.{IsRemarkAt, fault_span}
 use Rattle.filterset_documents.proofs.JoinLemmas.{Zips-rows}

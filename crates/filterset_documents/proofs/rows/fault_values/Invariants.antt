@@ -1,6 +1,6 @@
 use Rattle.std.proofs.Common.{map, option_map, take}
 use Rattle.serde_json.specs.View.{view}
-use Rattle.filterset_drawing.specs.Remarks.{remark_row}
+use Rattle.filterset_display.specs.Remarks.{remark_row}
 use Rattle.filterset_entries.specs.Placements.{placement_of}
 use Rattle.filterset_documents.specs.Diagnostics.{AreDiagnosed}
 use Rattle.filterset_documents.proofs.rows.fault_values.Given as goal

@@ -3,7 +3,7 @@ use Rattle.std.specs.Prelude.{unwrap_or}
 use Rattle.std.proofs.lemmas.List.{take_all}
 use Rattle.serde_json.specs.View.{view}
 use Rattle.filterset_entries.specs.{Checked.text_row, Unread.AreUnreadRemarks}
-use Rattle.filterset_drawing.specs.{Remarks.remark_row, declared.remark.Remark.Remark}
+use Rattle.filterset_display.specs.{Remarks.remark_row, declared.remark.Remark.Remark}
 use Rattle.filterset_faults.specs.Span.{span}
 use Rattle.filterset_documents.specs.Diagnostics.{IsRemarkAt}
 use Rattle.filterset_documents.proofs.JoinLemmas.{Zips-rows}

@@ -1,7 +1,7 @@
 use Rattle.std.proofs.Common.{map, take}
 use Rattle.std.specs.{List.AllZip, Prelude.unwrap_or}
 use Rattle.serde_json.specs.View.{view}
-use Rattle.filterset_drawing.specs.Remarks.{remark_row}
+use Rattle.filterset_display.specs.Remarks.{remark_row}
 use Rattle.filterset_faults.specs.Span.{span}
 use Rattle.filterset_documents.specs.Diagnostics.{IsRemarkAt}
 use Rattle.filterset_documents.proofs.unread.diagnose_unread.Given as goal

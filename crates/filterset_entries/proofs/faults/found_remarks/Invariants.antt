@@ -1,5 +1,5 @@
 use Rattle.std.proofs.Common.{◌≡◌, map, take}
-use Rattle.filterset_drawing.specs.Remarks.{fault_remark, remark_row}
+use Rattle.filterset_display.specs.Remarks.{fault_remark, remark_row}
 use Rattle.filterset_entries.proofs.faults.found_remarks.Given as goal
 
 -- the remarks on the faults so far

@@ -1,6 +1,6 @@
 use Rattle.std.proofs.Common.{arith, ◌≡◌, ◌<◌, ◌∙◌, ◌++◌, ◌∷◌, [], ap, append_assoc, get_or, length, map, option_map, string_bytes, sym, take}
 use Rattle.std.proofs.lemmas.List.{map-append, map_push, take_more}
-use Rattle.filterset_drawing.specs.Remarks.{RemarkRow, remark_row}
+use Rattle.filterset_display.specs.Remarks.{RemarkRow, remark_row}
 use Rattle.filterset_faults.specs.declared.span.SourceSpan.{SourceSpan}
 use Rattle.filterset_entries.specs.{Placements.placement_of, Unread.caret_remark, Unread.found_span}
 use Rattle.filterset_entries.proofs.unread.push_carets.Goals as goal

@@ -1,5 +1,5 @@
 use Rattle.std.proofs.Common.{◌≡◌, ◌++◌, map, option_map, string_bytes, take}
-use Rattle.filterset_drawing.specs.Remarks.{remark_row}
+use Rattle.filterset_display.specs.Remarks.{remark_row}
 use Rattle.filterset_entries.specs.{Placements.placement_of, Unread.caret_remark, Unread.found_span}
 use Rattle.filterset_entries.proofs.unread.push_carets.Given as goal
 

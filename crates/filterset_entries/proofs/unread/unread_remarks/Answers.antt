@@ -1,6 +1,6 @@
 use Rattle.std.proofs.Common.{arith, rules, ◌≡◌, ◌<◌, ◌∙◌, ◌++◌, ◌∷◌, [], ap, append_assoc, get_or, length, map, sym, take}
 use Rattle.std.proofs.lemmas.List.{map-append, map_push, take_more}
-use Rattle.filterset_drawing.specs.Remarks.{remark_row}
+use Rattle.filterset_display.specs.Remarks.{remark_row}
 use Rattle.filterset_entries.specs.{Checked.text_row, Unread.key_remark}
 use Rattle.filterset_entries.proofs.UnreadLemmas.{carets-more}
 use Rattle.filterset_entries.proofs.unread.unread_remarks.Goals as goal

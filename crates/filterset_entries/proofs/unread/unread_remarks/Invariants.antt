@@ -1,5 +1,5 @@
 use Rattle.std.proofs.Common.{◌≡◌, ◌++◌, List, map, take}
-use Rattle.filterset_drawing.specs.Remarks.{RemarkRow, remark_row}
+use Rattle.filterset_display.specs.Remarks.{RemarkRow, remark_row}
 use Rattle.filterset_entries.specs.{Checked.text_row, Unread.AreAllCaretRemarks, Unread.key_remark}
 use Rattle.filterset_entries.proofs.unread.unread_remarks.Given as goal
 

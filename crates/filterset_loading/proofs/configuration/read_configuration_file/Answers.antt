@@ -1,5 +1,5 @@
 use Rattle.std.proofs.Common.{subst}
-use Rattle.filterset_drawing.specs.Columns.{Text}
+use Rattle.filterset_display.specs.Columns.{Text}
 use Rattle.filterset_configuration.specs.Places.{ArePlaces}
 use Rattle.filterset_sources.specs.Configurations.{IsConfiguration, configured_rows}
 use Rattle.filterset_loading.proofs.configuration.read_configuration_file.Goals as goal

@@ -1,5 +1,5 @@
 use Rattle.std.proofs.Common.{refl, subst, sym}
-use Rattle.filterset_drawing.specs.Columns.{Text}
+use Rattle.filterset_display.specs.Columns.{Text}
 use Rattle.filterset_configuration.specs.Profiles.{HasProfiles}
 use Rattle.filterset_sources.specs.Configurations.{IsConfiguration}
 use Rattle.filterset_loading.proofs.profile.read_profiles_file.Goals as goal

@@ -2,7 +2,7 @@ use Rattle.std.proofs.Common.{◌≡◌, ◌∙◌, Some, inl, inr, subst, sym}
 use Rattle.std.proofs.lemmas.Result.{IfErr-weaker, IfOk-weaker}
 use Rattle.clap.specs.Words.{found_of, subcommand_name_of}
 use Rattle.clap.specs.declared.parser.matches.{ArgMatches.ArgMatches, Found.Found}
-use Rattle.filterset_drawing.specs.Columns.{Text}
+use Rattle.filterset_display.specs.Columns.{Text}
 use Rattle.filterset_loading.specs.Words.{IsAsked, IsAskedBy, IsUnasked}
 use Rattle.filterset_loading.specs.declared.fault.CommandFault.{CommandFault, TheVariants.Missing}
 use Rattle.filterset_loading.specs.declared.request.Request.{Request}

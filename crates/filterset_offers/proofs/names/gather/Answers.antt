@@ -1,6 +1,6 @@
 use Rattle.std.proofs.Common.{◌∙◌, Bor, Global, Vec, ap, inl, inr}
 use Rattle.std.proofs.lemmas.List.{take_all}
-use Rattle.filterset_editor.specs.Positions.{Text}
+use Rattle.filterset_display.specs.Positions.{Text}
 use Rattle.filterset_offers.proofs.GatherLemmas.{gathers-next, gathers-none}
 use Rattle.filterset_offers.proofs.names.gather.Goals as goal
 use Rattle.filterset_offers.proofs.names.gather.Goals.{then-is_wanted+in_ok-push, else-is_wanted}

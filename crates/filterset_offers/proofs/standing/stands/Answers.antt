@@ -1,6 +1,6 @@
 use Rattle.std.proofs.Common.{◌≡◌, ◌∙◌, IfOk, inl, rules, subst}
 use Rattle.std.proofs.lemmas.Result.{IfOk-weaker}
-use Rattle.filterset_editor.specs.Positions.{Text}
+use Rattle.filterset_display.specs.Positions.{Text}
 use Rattle.filterset_faults.specs.Span.{offset_of}
 use Rattle.filterset_rewriting.specs.Reading.{IsRead}
 use Rattle.filterset_language.specs.Views.{tree_of}

@@ -1,6 +1,6 @@
 use Rattle.std.proofs.{Common.Some, Common.map, Common.string_bytes, Common.subst, lemmas.Result.IfOk-weaker}
 use Rattle.serde_json.specs.View.{view}
-use Rattle.filterset_editor.specs.Positions.{Text}
+use Rattle.filterset_display.specs.Positions.{Text}
 use Rattle.filterset_server.specs.{Actions.NewActions, Subjects.proposal_row, Subjects.target_row}
 use Rattle.filterset_server.proofs.actions.proposal_actions.Goals as goal
 

@@ -1,7 +1,7 @@
 use Rattle.std.proofs.Common.{Some, arith, ap, false, length, map, refl, string_bytes, true}
 use Rattle.std.proofs.{lemmas.List.length-map, Math.ListN.length-set}
 use Rattle.serde_json.specs.View.{view}
-use Rattle.filterset_editor.specs.declared.edits.Change.{Change}
+use Rattle.filterset_display.specs.declared.edits.Change.{Change}
 use Rattle.filterset_entries.specs.Checked.{text_row}
 use Rattle.filterset_server.specs.Changes.{texts_of}
 use Rattle.filterset_server.proofs.ActionLemmas.{now_of, text_in}

@@ -4,7 +4,7 @@ use Rattle.serde_json.specs.declared.value.Value.{the_lemmas}
 use Rattle.filterset_entries.specs.Checked.{text_row}
 use Rattle.filterset_documents.specs.{Contents.Becomes, Contents.content_row, Edits.AreRewrites, Edits.edit_row, Edits.edited}
 use Rattle.filterset_documents.proofs.BecomingLemmas.{bytes_of, now_of}
-use Rattle.filterset_editor.specs.Positions.{Text}
+use Rattle.filterset_display.specs.Positions.{Text}
 use Rattle.filterset_server.specs.Formatting.{IsFormatted}
 use Rattle.filterset_server.proofs.formatting.format_content.Goals as goal
 

@@ -1,7 +1,7 @@
 use Rattle.std.proofs.Common.{◌≡◌, ◌<◌, ◌++◌, ◌∷◌, ◌≢◌, ℕ, zero, suc, [], Bor, List, ap, append_assoc, arith, codes, length, map, refl, rules, string_bytes, subst, sym, take, ◌∙◌}
 use Rattle.std.specs.{Prelude.decimal, List.flat_map}
 use Rattle.std.proofs.lemmas.List.{append-nil, flat_map_more, map_more}
-use Rattle.filterset_editor.specs.Positions.{Text}
+use Rattle.filterset_display.specs.Positions.{Text}
 use Rattle.filterset_server.specs.Matches.{more_line, name_line}
 use Rattle.filterset_server.proofs.matches.shortlist_text.Goals as goal
 

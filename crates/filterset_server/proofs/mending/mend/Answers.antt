@@ -1,5 +1,5 @@
 use Rattle.std.proofs.Common.{◌≡◌, ◌∙◌, Some, ap, false, inl, inr, length, refl, rules, string_bytes, true}
-use Rattle.filterset_editor.specs.Positions.{Text}
+use Rattle.filterset_display.specs.Positions.{Text}
 use Rattle.filterset_server.proofs.mending.mend.Goals as goal
 
 pub returns-in_default : goal.returns-in_default

@@ -1,6 +1,6 @@
 use Rattle.std.proofs.Common.{◌≡◌, ◌∙◌, ap, refl, subst}
 use Rattle.serde_json.specs.View.{view}
-use Rattle.filterset_drawing.specs.Remarks.{RemarkRow, fault_remark}
+use Rattle.filterset_display.specs.Remarks.{RemarkRow, fault_remark}
 use Rattle.filterset_entries.specs.Placements.{placement_of}
 use Rattle.filterset_faults.specs.declared.span.SourceSpan.{SourceSpan}
 use Rattle.filterset_documents.specs.Diagnostics.{IsRemarkAt, fault_span}

@@ -1,7 +1,7 @@
 use Rattle.std.proofs.Common.{◌∙◌, ◌⊎◌, List, ap, inl, inr, refl, string_bytes, subst}
 use Rattle.std.specs.Prelude.{IfOk}
 use Rattle.std.proofs.lemmas.Result.{IfErr-weaker, IfOk-weaker, err_from_is_err_and}
-use Rattle.filterset_drawing.specs.{Columns.Text, declared.source.Source.Source}
+use Rattle.filterset_display.specs.{Columns.Text, declared.source.Source.Source}
 use Rattle.filterset_entries.specs.declared.text.Answer.{Answer}
 use Rattle.filterset_configuration.specs.declared.profiles.Profile.{Profile}
 use Rattle.filterset_loading.specs.{Configurations.IsSettingsFault, declared.fault.CommandFault.CommandFault}

@@ -1,6 +1,6 @@
 use Rattle.std.proofs.Common.{◌≡◌, ◌∙◌, None, Option, Some, ap, refl}
 use Rattle.std.specs.{Borrow.Bor, Prelude.unwrap_or}
-use Rattle.filterset_drawing.specs.Columns.{Text}
+use Rattle.filterset_display.specs.Columns.{Text}
 use Rattle.filterset_entries.specs.Entries.{default_row, given_row}
 use Rattle.filterset_verdicts.proofs.NamingLemmas.{at_none}
 use Rattle.filterset_verdicts.proofs.deciding.decide_known.Goals as goal

@@ -1,7 +1,7 @@
 use Rattle.std.proofs.Common.{◌∷◌, ◌∙◌, ap, map}
 use Rattle.std.specs.Prelude.{codes}
 use Rattle.filterset_entries.specs.{Checked.text_row, Entries.test_row}
-use Rattle.filterset_drawing.specs.Columns.{Text}
+use Rattle.filterset_display.specs.Columns.{Text}
 use Rattle.filterset_verdicts.specs.Deciding.{within_of}
 use Rattle.filterset_verdicts.proofs.deciding.request_entries.Goals as goal
 

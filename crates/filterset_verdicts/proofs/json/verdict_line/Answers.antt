@@ -1,7 +1,7 @@
 use Rattle.std.proofs.Common.{◌∙◌, ◌++◌, ap}
 use Rattle.std.specs.Prelude.{codes}
 use Rattle.serde_json.specs.View.{view}
-use Rattle.filterset_drawing.specs.Columns.{Text}
+use Rattle.filterset_display.specs.Columns.{Text}
 use Rattle.filterset_verdicts.proofs.VerdictJsonLemmas.{verdict_has_no_float}
 use Rattle.filterset_verdicts.proofs.json.verdict_line.Goals as goal
 

@@ -1,6 +1,6 @@
 use Rattle.std.proofs.Common.{◌↔◌, Bor, List, map, refl, subst, sym}
 use Rattle.std.specs.{HashSet.keys, List.Contains}
-use Rattle.filterset_drawing.specs.Columns.{Text}
+use Rattle.filterset_display.specs.Columns.{Text}
 use Rattle.nextest_filtering.specs.{Groups.IsGroupName, declared.compile.context.KnownGroups.KnownGroups}
 use Rattle.filterset_verdicts.proofs.ListedLemmas.{group_names_known}
 use Rattle.filterset_verdicts.proofs.listed.group_names.Goals as goal

@@ -1,7 +1,7 @@
 use Rattle.std.proofs.Common.{rules, arith, ◌≡◌, ◌<◌, ◌∙◌, ◌++◌, ap, append_assoc, get_or, length, string_bytes, sym, take}
 use Rattle.std.specs.List.{flat_map}
 use Rattle.std.proofs.lemmas.List.{take_all}
-use Rattle.filterset_drawing.specs.Columns.{Text}
+use Rattle.filterset_display.specs.Columns.{Text}
 use Rattle.filterset_verdicts.specs.VerdictText.{demand_line}
 use Rattle.filterset_deciding.proofs.Parts.{flat_map_more}
 use Rattle.filterset_verdicts.proofs.text.doubt_text.Goals as goal

@@ -1,6 +1,6 @@
 use Rattle.std.proofs.Common.{◌++◌, string_bytes}
 use Rattle.std.specs.Prelude.{codes}
-use Rattle.filterset_drawing.specs.Columns.{Text}
+use Rattle.filterset_display.specs.Columns.{Text}
 use Rattle.filterset_graph.specs.Platforms.{platform_text}
 use Rattle.filterset_verdicts.specs.VerdictText.{field_line, origin_line}
 use Rattle.filterset_verdicts.proofs.VerdictTextLemmas.{joined}

@@ -6,7 +6,7 @@ use Rattle.filterset_names.specs.Workspaces.{known_of}
 use Rattle.filterset_server.specs.Unmatched.{DiagnosesContentIn}
 use Rattle.filterset_documents.specs.Contents.{ContentRow, names_in}
 use Rattle.filterset_documents.specs.{Diagnostics.IsRefusalAt, Filtersets.SaysWhy}
-use Rattle.filterset_editor.specs.{Positions.Text, declared.positions.Encoding.Encoding}
+use Rattle.filterset_display.specs.{Positions.Text, declared.positions.Encoding.Encoding}
 use Rattle.filterset_sources.specs.declared.refusal.SourceRefusal.{SourceRefusal}
 use Rattle.filterset_sources.specs.declared.refusal.SourceRefusal.TheVariants.{NotJson, NotToml, OutOfMemory, WrongValue}
 use Rattle.filterset.proofs.language.FiltersetLanguageLanguage.diagnose.Goals as goal

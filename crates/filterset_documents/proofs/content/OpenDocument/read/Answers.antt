@@ -1,6 +1,6 @@
 use Rattle.std.proofs.Common.{◌∙◌, ap, refl, subst, sym}
-use Rattle.filterset_drawing.specs.declared.source.Source.{Source}
-use Rattle.filterset_editor.specs.Positions.{Text}
+use Rattle.filterset_display.specs.declared.source.Source.{Source}
+use Rattle.filterset_display.specs.Positions.{Text}
 use Rattle.filterset_configuration.specs.{Places.ArePlaces, declared.places.Places.Places}
 use Rattle.filterset_sources.specs.Configurations.{configured_rows}
 use Rattle.filterset_documents.specs.Filtersets.{AreTextsOf}

@@ -1,6 +1,6 @@
 use Rattle.std.proofs.Common.{rules, arith, ◌<◌, ◌≡◌, [], ◌++◌, get_or, length, sym}
 use Rattle.std.proofs.lemmas.List.{append-nil, take_all}
-use Rattle.filterset_drawing.specs.Remarks.{remark_row}
+use Rattle.filterset_display.specs.Remarks.{remark_row}
 use Rattle.filterset_json.proofs.PieceLemmas.{Pieces-more, added_twice}
 use Rattle.filterset_json.specs.Pieces.{no_pieces}
 use Rattle.filterset_entries.specs.Forms.{IsWritten, writing_of}

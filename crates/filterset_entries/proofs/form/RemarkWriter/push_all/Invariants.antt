@@ -1,5 +1,5 @@
 use Rattle.std.proofs.Common.{◌≡◌, ◌++◌, map, string_bytes, take}
-use Rattle.filterset_drawing.specs.{Columns.Text, Remarks.remark_row}
+use Rattle.filterset_display.specs.{Columns.Text, Remarks.remark_row}
 use Rattle.filterset_json.specs.Pieces.{Pieces}
 use Rattle.filterset_entries.specs.Forms.{IsWritten, writing_of}
 use Rattle.filterset_entries.proofs.form.RemarkWriter.push_all.Given as goal

@@ -1,3 +1,0 @@
-pub mod ColumnLemmas
-pub mod LineLemmas
-pub mod MetLemmas

@@ -1,9 +1,0 @@
-mod ChangeLemmas
-pub mod FrameLemmas
-mod HeadLemmas
-mod MessageLemmas
-mod PositionLemmas
-mod RefusalLemmas
-mod ServerLemmas
-mod SessionLemmas
-mod WrittenLemmas

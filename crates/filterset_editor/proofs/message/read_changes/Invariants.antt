@@ -1,5 +1,0 @@
-use Rattle.filterset_editor.proofs.MessageLemmas.{Read}
-use Rattle.filterset_editor.proofs.message.read_changes.Given as goal
-
-abbrev pub invariant-loop-value : goal.invariant-loop-value
-invariant-loop-value l = Read l.values l.value-index l.changes.items
