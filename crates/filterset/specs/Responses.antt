@@ -7,10 +7,8 @@ use Rattle.filterset_display.specs.declared.inquiry.Inquiry.TheVariants.{CodeAct
 use Rattle.filterset_display.specs.declared.positions.Encoding.{Encoding}
 use Rattle.filterset_server.specs.Actions.{ActsOn}
 use Rattle.filterset_documents.specs.{Contents.ContentRow, Contents.Holds, Contents.HoldsNothing, Filtersets.is_list}
-use Rattle.filterset_names.specs.Workspaces.{WorkspaceRow}
-use Rattle.filterset_offers.specs.Completion.{CompletesRows}
-use Rattle.filterset_server.specs.{Folding.AreFolds, Formatting.FormatsContent, Hover.HoversRows, Symbols.AreSymbols}
-use Rattle.filterset_server.specs.{Highlights.HighlightsRows, Unmatched.DiagnosesIn}
+use Rattle.filterset_offers.specs.{Completion.CompletesRows, Hover.HoversRows, Unmatched.DiagnosesIn, Workspaces.WorkspaceRow}
+use Rattle.filterset_server.specs.{Folding.AreFolds, Formatting.FormatsContent, Highlights.HighlightsRows, Symbols.AreSymbols}
 
 -- the result of a request about a document, which has this address and content, where a workspace may be known
 abbrev pub RespondsContent : Option WorkspaceRow → Encoding → Text → Text → Inquiry → ContentRow → Data → Type 0

@@ -6,7 +6,7 @@ use Rattle.filterset_display.specs.Columns.{Text}
 use Rattle.filterset_display.specs.{Frames.Bytes, Openings.IsOpening, Openings.shown_data, Sessions.Served}
 use Rattle.filterset_display.specs.{Written.Writes, declared.ending.Ending.Ending}
 use Rattle.filterset_json.specs.declared.fault.RunFault.TheVariants.{Read, Write}
-use Rattle.filterset_names.specs.Workspaces.{WorkspaceRow}
+use Rattle.filterset_offers.specs.Workspaces.{WorkspaceRow}
 use Rattle.filterset_sources.specs.declared.list.RunIgnored.TheVariants.{All}
 use Rattle.filterset.specs.Responses.{says}
 use Rattle.filterset_loading.specs.Workspaces.{IsWorkspaceFault, IsWorkspaceIn}

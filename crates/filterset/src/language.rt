@@ -3,19 +3,14 @@ ghost use Rattle.std.specs.Prelude.{◌≡◌, IfOk, map, string_bytes};
 ghost use Rattle.serde_json.specs.View.{view};
 ghost use Rattle.filterset_entries.specs.Checked.{text_row};
 ghost use Rattle.filterset_documents.specs.{Contents.content_row, Contents.names_in, Filtersets.is_list};
-ghost use Rattle.filterset_names.specs.Workspaces.{known_of};
-ghost use Rattle.filterset_server.specs.Unmatched.{DiagnosesContentIn};
+ghost use Rattle.filterset_offers.specs.{Unmatched.DiagnosesContentIn, Workspaces.known_of};
 ghost use Rattle.filterset.specs.Responses.{RespondsContent};
 
 use filterset_display::{Document, Encoding, Inquiry, Language, Lines};
 use filterset_documents::{Content, OpenDocument, Shown, diagnose_entries, diagnose_refusal};
 use filterset_entries::TextEntry;
-use filterset_names::Workspace;
-use filterset_offers::complete_entries;
-use filterset_server::{
-    act_on, folds_value, format_content, highlight_entries, hover_entries, symbols_value,
-    warn_entries,
-};
+use filterset_offers::{Workspace, complete_entries, hover_entries, warn_entries};
+use filterset_server::{act_on, folds_value, format_content, highlight_entries, symbols_value};
 use filterset_sources::SourceRefusal;
 use serde_json::Value;
 use std::alloc::{AllocError, Global};
@@ -79,7 +74,7 @@ fn respond_to(
 }
 
 impl Language for FiltersetLanguage<'_> {
-    ghost use Rattle.filterset_names.specs.Workspaces.{known_of};
+    ghost use Rattle.filterset_offers.specs.Workspaces.{known_of};
     ghost use Rattle.filterset.specs.Responses.{says};
 
     ghost says = { λ language. says (known_of language.workspace) };

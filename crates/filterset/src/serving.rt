@@ -1,7 +1,7 @@
 //! The command `lsp`: a language server over standard input and output.
 ghost use Rattle.std.specs.Prelude.{◌≡◌, IfErr, IfOk, IsTrue, OnOk, Some, None, option_map};
 ghost use Rattle.std.specs.Io.KnownBytes.{prepend_known};
-ghost use Rattle.filterset_names.specs.Workspaces.{known_of, workspace_row};
+ghost use Rattle.filterset_offers.specs.Workspaces.{known_of, workspace_row};
 ghost use Rattle.filterset.specs.Serving.{IsServiceFault, IsStreamFault, Serves, ServesIn, row_of};
 ghost use Rattle.filterset_loading.specs.Files.{OrMemory};
 
@@ -10,7 +10,7 @@ use crate::language::FiltersetLanguage;
 use filterset_display::{Ending, read_opening, serve};
 use filterset_json::{Sink, Source, write_all};
 use filterset_loading::{CommandFault, FileSource, Workspace, WorkspacePaths, read_workspace};
-use filterset_names::Workspace as KnownWorkspace;
+use filterset_offers::Workspace as KnownWorkspace;
 use std::alloc::Global;
 
 /// Returns what an editor is told of a workspace.

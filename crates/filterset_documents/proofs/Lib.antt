@@ -1,4 +1,3 @@
-pub mod BecomingLemmas
-pub mod EditLemmas
+pub mod ContentLemmas
 pub mod FindLemmas
 pub mod JoinLemmas

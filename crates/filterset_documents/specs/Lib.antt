@@ -1,6 +1,5 @@
 pub mod Contents
 pub mod Diagnostics
-pub mod Edits
 pub mod Filtersets
 pub mod Joins
 pub mod Ranges

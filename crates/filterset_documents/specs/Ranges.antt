@@ -1,6 +1,6 @@
 -- Parts of documents, as the protocol has them.
 use Rattle.std.specs.{Prelude.◌≡◌, Prelude.◌≤◌, Prelude.◌<◌, Prelude.ℕ, Prelude.codes, Str.IsCharBoundary}
-use Rattle.serde_json.specs.Data.{Data, number, unsigned, object, member, no_members}
+use Rattle.serde_json.specs.Data.{Data, number, unsigned, string, object, member, no_members}
 use Rattle.filterset_display.specs.Lines.{from_of, to_of}
 use Rattle.filterset_display.specs.Positions.{IsPosition, Text}
 use Rattle.filterset_display.specs.declared.positions.{Encoding.Encoding, Position.Position, Range.Range}
@@ -33,3 +33,7 @@ IsRangeOf encoding text span range =
 -- the value is the range of a span
 abbrev pub IsRange : Encoding → Text → SourceSpan → Data → Type 0
 IsRange encoding text span d = (range : Range) × IsRangeOf encoding text span range × (d ≡ range_data range)
+
+-- the text in place of a range
+abbrev pub edit_data : Text → Data → Data
+edit_data text range = object (member (codes "newText") (string text) (member (codes "range") range no_members))

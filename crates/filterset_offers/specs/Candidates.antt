@@ -1,8 +1,8 @@
 -- What may be offered at a position of a filterset.
 use Rattle.std.specs.Prelude.{ℕ, ◌+◌, ◌++◌, ◌==◌, ◌&&◌, ◌||◌, Bool, List, [], ◌∷◌, codes, length, nat_le}
 use Rattle.filterset_display.specs.Positions.{Text}
-use Rattle.filterset_names.specs.declared.names.Named.{Named}
-use Rattle.filterset_names.specs.declared.names.Named.TheVariants as named
+use Rattle.filterset_offers.specs.declared.named.Named.{Named}
+use Rattle.filterset_offers.specs.declared.named.Named.TheVariants as named
 use Rattle.filterset_offers.specs.declared.candidates.{Candidate.Candidate, Mark.Mark}
 use Rattle.filterset_offers.specs.declared.candidates.Mark.TheVariants.{Begins, Precedes, Inside, Names}
 use Rattle.filterset_offers.specs.declared.candidates.Owner.{Owner}

@@ -4,10 +4,11 @@ use Rattle.std.specs.{List.AllZip, Str.IsCharBoundary}
 use Rattle.serde_json.specs.Data.{Data, array, boolean, member, no_members, null, number, object, string, unsigned}
 use Rattle.serde_json.specs.View.{items_of}
 use Rattle.filterset_entries.specs.{Checked.TextRow, Placements.TextSpot, Placements.span_in}
-use Rattle.filterset_documents.specs.{Edits.edit_data, Filtersets.is_in, Filtersets.is_row_at, Ranges.IsRange}
+use Rattle.filterset_documents.specs.Ranges.{edit_data, IsRange}
+use Rattle.filterset_documents.specs.Filtersets.{is_in, is_row_at}
 use Rattle.filterset_display.specs.Positions.{IsOffset, Text}
 use Rattle.filterset_display.specs.declared.positions.{Encoding.Encoding, Position.Position}
-use Rattle.filterset_names.specs.Workspaces.{WorkspaceRow}
+use Rattle.filterset_offers.specs.Workspaces.{WorkspaceRow}
 use Rattle.filterset_offers.specs.Candidates.{Row, all_rows}
 use Rattle.filterset_offers.specs.{Gaps.text_offset, Names.AreKnown, Names.may_lack}
 use Rattle.filterset_offers.specs.Standing.{AreOffered, GapRows, gap_for, gaps_at, inserted}

@@ -1,6 +1,16 @@
 pub mod Candidates
 pub mod Completion
 pub mod Gaps
+pub mod Hover
 pub mod Marks
+pub mod Matched
+pub mod Matches
+pub mod Named
 pub mod Names
+pub mod ReadyMatchers
+pub mod Sieves
+pub mod Something
 pub mod Standing
+pub mod Unmatched
+pub mod Words
+pub mod Workspaces

@@ -12,8 +12,8 @@ use Rattle.filterset_grammar.specs.Tree as tree
 use Rattle.filterset_grammar.specs.declared.predicate.Predicate.TheVariants as predicates
 use Rattle.filterset_language.specs.Faults.{leaf_span}
 use Rattle.filterset_matchers.specs.Matcher.{Matcher, Equal, Contains, Glob, Regex}
-use Rattle.filterset_names.specs.declared.names.Named.{Named}
-use Rattle.filterset_names.specs.declared.names.Named.TheVariants as named
+use Rattle.filterset_offers.specs.declared.named.Named.{Named}
+use Rattle.filterset_offers.specs.declared.named.Named.TheVariants as named
 use Rattle.filterset_offers.specs.{Candidates.Row, declared.candidates.Mark.Mark}
 use Rattle.filterset_offers.specs.declared.candidates.Mark.TheVariants.{Begins, Precedes, Inside, Names}
 use Rattle.filterset_offers.specs.declared.candidates.Owner.{Owner}

@@ -2,8 +2,8 @@
 use Rattle.std.specs.Prelude.{◌≡◌, ◌≤◌, ◌<◌, ◌++◌, ◌&&◌, ◌==◌, ℕ, Bool, Contains, IsTrue, List, [], Option, None, Some, length, map, nat_le, not}
 use Rattle.std.specs.{List.IsDistinct, List.list_all, List.starts_with, Str.bytes_eq}
 use Rattle.filterset_display.specs.Positions.{Text}
-use Rattle.filterset_names.specs.{Names.names_in, Workspaces.WorkspaceRow, declared.names.Named.Named}
-use Rattle.filterset_names.specs.declared.names.Named.TheVariants.{Binary, BinaryId, Package, Test}
+use Rattle.filterset_offers.specs.{Named.names_in, Workspaces.WorkspaceRow, declared.named.Named.Named}
+use Rattle.filterset_offers.specs.declared.named.Named.TheVariants.{Binary, BinaryId, Package, Test}
 use Rattle.filterset_offers.specs.Candidates.{Row, is_name_byte, naming}
 
 -- A name that begins with what is typed, and that is written as it is: it has no byte that may be taken for another part of a

@@ -4,7 +4,7 @@ use Rattle.std.specs.List.{count_by, starts_with}
 use Rattle.filterset_display.specs.Positions.{Text}
 use Rattle.filterset_faults.specs.{Span.offset_of, declared.kind.FiltersetKind.FiltersetKind}
 use Rattle.filterset_documents.specs.Filtersets.{OfTree}
-use Rattle.filterset_names.specs.Sieves.{Sieves}
+use Rattle.filterset_offers.specs.Sieves.{Sieves}
 use Rattle.filterset_offers.specs.{Candidates.Row, Gaps.GapRow, Gaps.gap_at, Gaps.gap_row, Gaps.is_of, Marks.shows}
 use Rattle.filterset_offers.specs.declared.candidates.Mark.{Mark}
 use Rattle.filterset_offers.specs.declared.candidates.Mark.TheVariants.{Begins, Precedes, Inside, Names}

@@ -3,7 +3,7 @@ ghost use Rattle.std.specs.Prelude.{◌≡◌, ◌<◌, ◌^◌, IfOk, length, m
 ghost use Rattle.filterset_offers.specs.Candidates as spec;
 ghost use Rattle.filterset_offers.specs.Candidates.{row_of};
 
-use filterset_names::Named;
+use crate::named::Named;
 use std::alloc::{AllocError, Global};
 
 /// A predicate with an argument of which some values are known.

@@ -2,7 +2,7 @@
 ghost use Rattle.std.specs.Prelude.{◌≡◌, IfOk, map};
 ghost use Rattle.serde_json.specs.View.{view};
 ghost use Rattle.filterset_entries.specs.{Checked.text_row, Placements.spot_of};
-ghost use Rattle.filterset_names.specs.Workspaces.{known_of};
+ghost use Rattle.filterset_offers.specs.Workspaces.{known_of};
 ghost use Rattle.filterset_offers.specs.Completion.{CompletesAt, CompletesGaps, CompletesIn, CompletesRow, CompletesRows, list_data};
 ghost use Rattle.filterset_offers.specs.Standing.{gap_rows};
 
@@ -12,10 +12,10 @@ use crate::items::items_of;
 use crate::names::{known_candidates, may_lack};
 use crate::offering::offered;
 use crate::standing::{Gaps, gaps_at};
+use crate::workspace::Workspace;
 use filterset_display::Position;
 use filterset_documents::{Shown, entry_at, is_in, span_in};
 use filterset_entries::{FilePlace, TextEntry};
-use filterset_names::Workspace;
 use serde_json::{Value, json};
 use std::alloc::{AllocError, Global};
 

@@ -2,7 +2,7 @@
 ghost use Rattle.std.specs.{Prelude.◌≡◌, Prelude.IfOk, Prelude.map, List.AllZip};
 ghost use Rattle.serde_json.specs.View.{view};
 ghost use Rattle.filterset_entries.specs.Placements.{spot_of};
-ghost use Rattle.filterset_documents.specs.Edits.{edit_data};
+ghost use Rattle.filterset_documents.specs.Ranges.{edit_data};
 ghost use Rattle.filterset_offers.specs.{Candidates.row_of, Completion.IsItem, Completion.item_data, Gaps.gap_row};
 ghost use Rattle.filterset_offers.specs.Standing.{gap_rows, inserted};
 

@@ -6,11 +6,11 @@ ghost use Rattle.filterset_offers.specs.{Candidates.row_of, Marks.has_mark};
 ghost use Rattle.filterset_offers.specs.Marks as spec;
 
 use crate::candidates::{Candidate, Mark, Owner};
+use crate::named::Named;
 use filterset_documents::{is_same, leaf_span};
 use filterset_faults::SourceSpan;
 use filterset_language::{ParsedExpr, ParsedLeaf};
 use filterset_matchers::NameMatcher;
-use filterset_names::Named;
 use nextest_filtering::FiltersetKind;
 use std::alloc::{AllocError, Global};
 

@@ -1,14 +1,15 @@
 //! The names of a workspace that may be offered.
 ghost use Rattle.std.specs.Prelude.{◌≡◌, ◌&&◌, IfOk, length, map, nat_lt, not};
 ghost use Rattle.std.specs.{List.list_all, List.list_any, Str.bytes_eq};
-ghost use Rattle.filterset_names.specs.Workspaces.{known_of, workspace_row};
+ghost use Rattle.filterset_offers.specs.Workspaces.{known_of, workspace_row};
 ghost use Rattle.filterset_offers.specs.Candidates as candidates;
 ghost use Rattle.filterset_offers.specs.Candidates.{row_of};
 ghost use Rattle.filterset_offers.specs.Names.{AreKnown, AreNamed, AreNames, IsGathered, may_lack};
 ghost use Rattle.filterset_offers.specs.Names as spec;
 
 use crate::candidates::{Candidate, is_name_byte, naming};
-use filterset_names::{Named, Workspace, names_of};
+use crate::named::{Named, names_of};
+use crate::workspace::Workspace;
 use std::alloc::{AllocError, Global};
 
 /// How many names of a sort are offered at most.

@@ -1,2 +1,4 @@
 mod ActionLemmas
+mod BecomingLemmas
+mod EditLemmas
 mod MarkLemmas

@@ -5,7 +5,9 @@ use Rattle.serde_json.specs.Data.{Data, array, string, object, member, no_member
 use Rattle.serde_json.specs.View.{items_of}
 use Rattle.filterset_entries.specs.Checked.{TextRow}
 use Rattle.filterset_documents.specs.{Contents.ContentRow, Diagnostics.IsRemarkAt, Diagnostics.fault_span}
-use Rattle.filterset_documents.specs.{Edits.edit_data, Filtersets.stretch_at, Filtersets.stretch_span, Joins.Joins}
+use Rattle.filterset_documents.specs.Ranges.{edit_data}
+use Rattle.filterset_documents.specs.Filtersets.{stretch_at, stretch_span}
+use Rattle.filterset_documents.specs.Joins.{Joins}
 use Rattle.filterset_documents.specs.Ranges.{IsRangeOf, range_data}
 use Rattle.filterset_display.specs.Remarks.{fault_remark}
 use Rattle.filterset_faults.specs.Faults.{span_of}

@@ -3,7 +3,9 @@ use Rattle.std.specs.Prelude.{Bool, true, false, List, [], ◌∷◌, Option, No
 use Rattle.std.specs.List.{flat_map}
 use Rattle.filterset_entries.specs.Checked.{TextRow}
 use Rattle.filterset_entries.specs.Placements.{TextSpot, line, literal, span_in}
-use Rattle.filterset_documents.specs.{Contents.Becomes, Edits.basic_char, Edits.quoted, Filtersets.stretch_span}
+use Rattle.filterset_server.specs.Becoming.{Becomes}
+use Rattle.filterset_server.specs.Edits.{basic_char, quoted}
+use Rattle.filterset_documents.specs.Filtersets.{stretch_span}
 use Rattle.filterset_display.specs.{Edits.AreChanged, Positions.Text, declared.edits.Change.Change}
 use Rattle.filterset_faults.specs.declared.{error.ParseSingleError.ParseSingleError, span.SourceSpan.SourceSpan}
 use Rattle.filterset_server.specs.Subjects.{TargetRow}

@@ -5,8 +5,10 @@ use Rattle.serde_json.specs.Data.{Data, null}
 use Rattle.filterset_entries.specs.Checked.{TextRow}
 use Rattle.filterset_display.specs.{Positions.Text, declared.positions.Encoding.Encoding}
 use Rattle.filterset_grammar.specs.Printing.{printed}
-use Rattle.filterset_documents.specs.{Filtersets.OfTree, Contents.Becomes, Contents.ContentRow}
-use Rattle.filterset_documents.specs.Edits.{AreEdits, AreEditsOf, AreRewrites, EditRow, edited}
+use Rattle.filterset_documents.specs.Filtersets.{OfTree}
+use Rattle.filterset_server.specs.Becoming.{Becomes}
+use Rattle.filterset_documents.specs.Contents.{ContentRow}
+use Rattle.filterset_server.specs.Edits.{AreEdits, AreEditsOf, AreRewrites, EditRow, edited}
 
 -- the text that a filterset gets: if it is found in the document, its own as it prints
 abbrev pub IsFormatted : TextRow → Text → Type 0

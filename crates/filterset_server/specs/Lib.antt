@@ -1,13 +1,11 @@
 pub mod Actions
+pub mod Becoming
 pub mod Changes
+pub mod Edits
 pub mod Folding
 pub mod Formatting
 pub mod Highlights
-pub mod Hover
-pub mod Matches
 pub mod Mending
 pub mod Repairs
 pub mod Subjects
 pub mod Symbols
-pub mod Unmatched
-pub mod Words

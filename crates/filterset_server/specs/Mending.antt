@@ -1,7 +1,7 @@
 -- Texts with edits that mend them.
 use Rattle.std.specs.Prelude.{◌≡◌, ◌⊎◌, ◌-◌, ◌&&◌, ◌∷◌, [], ℕ, Bool, true, false, List, Option, None, length, nat_le, nat_lt, not}
 use Rattle.std.specs.{Bool.then_some, List.list_any, Option.option_map_or}
-use Rattle.filterset_documents.specs.Edits.{AreEditsOf, EditRow, edited}
+use Rattle.filterset_server.specs.Edits.{AreEditsOf, EditRow, edited}
 use Rattle.filterset_display.specs.Positions.{Text}
 use Rattle.filterset_faults.specs.{Faults.span_of, Span.offset_of}
 use Rattle.filterset_faults.specs.declared.{error.ParseSingleError.ParseSingleError, span.SourceSpan.SourceSpan}

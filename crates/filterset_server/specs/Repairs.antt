@@ -1,7 +1,7 @@
 -- How what faults are about may be written instead.
 use Rattle.std.specs.Prelude.{◌≡◌, ◌⊎◌, ◌-◌, ◌++◌, ◌==◌, ◌&&◌, ◌||◌, ℕ, Bool, [], Option, None, Some, codes, drop, if◌then◌else◌, length, slice_index, take}
 use Rattle.std.specs.Str.{IsCharBoundary, trim_start}
-use Rattle.filterset_documents.specs.Edits.{EditRow, edit_row}
+use Rattle.filterset_server.specs.Edits.{EditRow, edit_row}
 use Rattle.filterset_display.specs.Lines.{from_of, to_of}
 use Rattle.filterset_display.specs.Positions.{Text}
 use Rattle.filterset_faults.specs.Span.{offset_of, span}

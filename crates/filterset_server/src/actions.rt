@@ -9,13 +9,14 @@ ghost use Rattle.filterset_server.specs.Repairs.{repair_row};
 ghost use Rattle.filterset_server.specs.Subjects.{proposal_row, rewrite_row, subject_row, target_row};
 
 use crate::changes::choose_action;
+use crate::edits::Edit;
 use crate::mending::mend;
 use crate::repairs::{Repair, repair_of};
 use crate::subject::{Proposal, Subject, meets};
 use crate::target::Target;
 use filterset_configuration::Stretch;
 use filterset_display::Range;
-use filterset_documents::{Content, Edit, Shown, fault_span, is_same, stretch_at, stretch_span};
+use filterset_documents::{Content, Shown, fault_span, is_same, stretch_at, stretch_span};
 use filterset_entries::TextEntry;
 use filterset_faults::ParseSingleError;
 use filterset_language::ParsedExpr;

@@ -7,11 +7,13 @@ ghost use Rattle.filterset_server.specs.Actions.{IsChosen, IsTried};
 ghost use Rattle.filterset_server.specs.Changes.{changed_span, changed_text, texts_of};
 ghost use Rattle.filterset_server.specs.Subjects.{proposal_row, target_row};
 
+use crate::becoming::becomes;
+use crate::quoting::{escape, quote};
 use crate::subject::Proposal;
 use crate::target::Target;
 use crate::values::{action_value, mended};
 use filterset_display::{Change, change_text};
-use filterset_documents::{becomes, escape, quote, range_of, span_in, stretch_span};
+use filterset_documents::{range_of, span_in, stretch_span};
 use filterset_entries::{FilePlace, Spot, TextEntry};
 use filterset_faults::SourceSpan;
 use serde_json::Value;

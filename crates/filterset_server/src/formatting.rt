@@ -5,9 +5,9 @@ ghost use Rattle.filterset_entries.specs.Checked.{text_row};
 ghost use Rattle.filterset_documents.specs.Contents.{content_row};
 ghost use Rattle.filterset_server.specs.Formatting.{FormatsContent, IsFormatted};
 
-use filterset_documents::{
-    Content, Shown, becomes, edit_text, edits_value, list_strings, ordered_edits, parse_text,
-};
+use crate::becoming::{becomes, list_strings};
+use crate::edits::{edit_text, edits_value, ordered_edits};
+use filterset_documents::{Content, Shown, parse_text};
 use filterset_entries::TextEntry;
 use serde_json::Value;
 use std::alloc::{AllocError, Global};

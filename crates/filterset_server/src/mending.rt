@@ -1,9 +1,9 @@
 //! Texts with edits that mend them.
 ghost use Rattle.std.specs.{Prelude.◌≡◌, Prelude.IfOk, Prelude.option_map, Prelude.string_bytes, List.list_any};
-ghost use Rattle.filterset_documents.specs.Edits.{edit_row};
+ghost use Rattle.filterset_server.specs.Edits.{edit_row};
 ghost use Rattle.filterset_server.specs.Mending.{IsClear, IsMending, begins_in};
 
-use filterset_documents::{Edit, edit_text};
+use crate::edits::{Edit, edit_text};
 use filterset_faults::ParseSingleError;
 use filterset_rewriting::{TextRefusal, read_text};
 use std::alloc::{AllocError, Global};

@@ -4,8 +4,8 @@ ghost use Rattle.filterset_grammar.specs.Printing.{printed};
 ghost use Rattle.filterset_language.specs.Views.{tree_of};
 ghost use Rattle.filterset_server.specs.Repairs.{IsCallRepair, IsRepairOf, call_text, gap_beside, is_blank, repair_row, reworded, spaced, stretch_in};
 
+use crate::edits::Edit;
 use filterset_configuration::Stretch;
-use filterset_documents::Edit;
 use filterset_faults::{ParseSingleError, SourceSpan};
 use filterset_language::ParsedExpr;
 use filterset_rewriting::{Front, read_call};

@@ -1,7 +1,7 @@
 //! The values of actions.
 ghost use Rattle.std.specs.Prelude.{◌≡◌, IfOk, map};
 ghost use Rattle.serde_json.specs.View.{view};
-ghost use Rattle.filterset_documents.specs.{Edits.edit_data, Ranges.range_data};
+ghost use Rattle.filterset_documents.specs.Ranges.{edit_data, range_data};
 ghost use Rattle.filterset_server.specs.Actions as spec;
 ghost use Rattle.filterset_server.specs.Actions.{AreMended, action_data, changes_data};
 ghost use Rattle.filterset_server.specs.Subjects.{proposal_row, target_row};

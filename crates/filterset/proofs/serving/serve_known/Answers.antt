@@ -1,6 +1,6 @@
 use Rattle.std.proofs.{Common.[], Common.Some, Common.ap, KnownBytes.Consumes-nil}
 use Rattle.std.proofs.lemmas.Result.{IfErr-weaker, IfOk-weaker}
-use Rattle.filterset_names.specs.Workspaces.{WorkspaceRow, workspace_row}
+use Rattle.filterset_offers.specs.Workspaces.{WorkspaceRow, workspace_row}
 use Rattle.filterset.specs.Responses.{says}
 use Rattle.filterset.proofs.ServingLemmas.{Served-whole, service_fault}
 use Rattle.filterset.proofs.serving.serve_known.Goals as goal

@@ -3,7 +3,7 @@ use Rattle.std.specs.Prelude.{option_map, string_bytes}
 use Rattle.std.proofs.lemmas.Result.{IfErr-weaker, IfOk-weaker, err_from_is_err_and}
 use Rattle.serde_json.specs.View.{view}
 use Rattle.filterset_loading.specs.declared.fault.CommandFault.TheVariants.{Run}
-use Rattle.filterset_names.specs.Workspaces.{WorkspaceRow}
+use Rattle.filterset_offers.specs.Workspaces.{WorkspaceRow}
 use Rattle.filterset.specs.Responses.{says}
 use Rattle.filterset.specs.Serving.{row_of}
 use Rattle.filterset.proofs.ServingLemmas.{Served-whole, service_fault, stream_fault}

@@ -8,8 +8,10 @@ use Rattle.filterset_configuration.proofs.values.read_keys_but.Goals as goal
 
 pub loop-key-init : goal.loop-key-init
 loop-key-init c =
+    let entries = c.in-Some.members.now.entries in
+    let known : Some (members_view entries) ≡ as_table (view c.args.value.now) = search (rules, c.in-Some.ensures) in
     rw (c.new-keys.ensures.items, c.into_iter-key-iterator.ensures.into_iter_gives, c.keys-key-items.ensures.rest)
-    (ap (keys_but (map (λ o. o.now) c.args.others.now)) (keys-entries c.in-Some.members.now.entries ∙ ap (λ o. option_map_or keys_of o []) (search (rules, c.in-Some.ensures))))
+    (ap (keys_but (map (λ o. o.now) c.args.others.now)) (keys-entries entries ∙ ap (λ o. option_map_or keys_of o []) known))
 
 pub loop-key-preserved-then-contains : goal.loop-key-preserved-then-contains
 loop-key-preserved-then-contains c =

@@ -3,7 +3,7 @@ use Rattle.std.proofs.lemmas.{Bool.false≢true, Result.IfOk-weaker}
 use Rattle.serde_json.specs.{View.view, declared.value.Value.the_lemmas, declared.value.Value.TheVariants.Null}
 use Rattle.filterset_entries.specs.{Checked.text_row, Placements.span_in, Placements.spot_of}
 use Rattle.filterset_documents.specs.Filtersets.{is_in}
-use Rattle.filterset_names.specs.Workspaces.{known_of}
+use Rattle.filterset_offers.specs.Workspaces.{known_of}
 use Rattle.filterset_offers.specs.{Completion.CompletesIn, Completion.CompletesText, Standing.GapRows}
 use Rattle.filterset_offers.proofs.documents.complete_at.Goals as goal
 

@@ -1,7 +1,7 @@
 use Rattle.std.proofs.{Common.◌≡◌, Common.ap, Common.subst, Common.◌∙◌, lemmas.Result.IfOk-weaker}
 use Rattle.serde_json.specs.{Data.Data, View.view}
 use Rattle.filterset_entries.specs.Placements.{span_in, spot_of}
-use Rattle.filterset_documents.specs.{Edits.edit_data, Ranges.IsRange}
+use Rattle.filterset_documents.specs.Ranges.{edit_data, IsRange}
 use Rattle.filterset_faults.specs.declared.span.SourceSpan.{SourceSpan}
 use Rattle.filterset_offers.specs.{Candidates.row_of, Completion.item_data, Gaps.GapRow, Standing.inserted}
 use Rattle.filterset_offers.proofs.items.item_of.Goals as goal

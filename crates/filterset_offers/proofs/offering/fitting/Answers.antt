@@ -1,8 +1,8 @@
 use Rattle.std.proofs.Common.{◌≡◌, ◌<◌, ◌+◌, ◌++◌, ◌∷◌, ◌⊎◌, ◌∙◌, ℕ, Bool, Global, List, [], Vec, ap, false, get_or, inl, inr, length, map, subst, sym, take, true}
 use Rattle.std.proofs.lemmas.List.{map_more}
 use Rattle.filterset_faults.specs.declared.kind.FiltersetKind.{FiltersetKind}
-use Rattle.filterset_names.proofs.SieveLemmas.{sieve-left, sieve-taken}
-use Rattle.filterset_names.specs.Sieves.Sieves.{no_more}
+use Rattle.filterset_offers.proofs.SieveLemmas.{sieve-left, sieve-taken}
+use Rattle.filterset_offers.specs.Sieves.Sieves.{no_more}
 use Rattle.filterset_offers.specs.Candidates.{Row, row_of}
 use Rattle.filterset_offers.specs.Standing.{AreFitting, Fits, GapRows, gap_rows}
 use Rattle.filterset_offers.specs.declared.candidates.Candidate.{Candidate}

@@ -2,8 +2,10 @@ use Rattle.std.proofs.Common.{arith, ◌≡◌, ◌∙◌, List, ap, false, inl,
 use Rattle.std.proofs.lemmas.{List.length-map, Result.IfOk-weaker, Slice.Zip.AllZip-long}
 use Rattle.serde_json.specs.declared.value.Value.{the_lemmas}
 use Rattle.filterset_entries.specs.Checked.{text_row}
-use Rattle.filterset_documents.specs.{Contents.Becomes, Contents.content_row, Edits.AreRewrites, Edits.edit_row, Edits.edited}
-use Rattle.filterset_documents.proofs.BecomingLemmas.{bytes_of, now_of}
+use Rattle.filterset_server.specs.Becoming.{Becomes}
+use Rattle.filterset_documents.specs.Contents.{content_row}
+use Rattle.filterset_server.specs.Edits.{AreRewrites, edit_row, edited}
+use Rattle.filterset_server.proofs.BecomingLemmas.{bytes_of, now_of}
 use Rattle.filterset_display.specs.Positions.{Text}
 use Rattle.filterset_server.specs.Formatting.{IsFormatted}
 use Rattle.filterset_server.proofs.formatting.format_content.Goals as goal

@@ -2,8 +2,8 @@ use Rattle.std.proofs.Common.{◌≡◌, ◌∷◌, ◌∙◌, [], IfOk, List, i
 use Rattle.std.proofs.lemmas.Result.{IfOk-weaker}
 use Rattle.serde_json.specs.{Data.Data, View.view}
 use Rattle.filterset_entries.specs.{Checked.text_row, declared.text.TextEntry.TextEntry}
-use Rattle.filterset_names.specs.Workspaces.{known_of}
-use Rattle.filterset_server.specs.Unmatched.{DiagnosesContentIn}
+use Rattle.filterset_offers.specs.Workspaces.{known_of}
+use Rattle.filterset_offers.specs.Unmatched.{DiagnosesContentIn}
 use Rattle.filterset_documents.specs.Contents.{ContentRow, names_in}
 use Rattle.filterset_documents.specs.{Diagnostics.IsRefusalAt, Filtersets.SaysWhy}
 use Rattle.filterset_display.specs.{Positions.Text, declared.positions.Encoding.Encoding}

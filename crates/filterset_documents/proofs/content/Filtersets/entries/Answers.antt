@@ -1,5 +1,5 @@
 use Rattle.std.proofs.{Common.◌∙◌, Common.refl, lemmas.Result.IfOk-weaker}
-use Rattle.filterset_documents.proofs.BecomingLemmas.{lines_are, texts_are}
+use Rattle.filterset_documents.proofs.ContentLemmas.{lines_are, texts_are}
 use Rattle.filterset_documents.proofs.content.Filtersets.entries.Goals as goal
 
 pub returns-in-Lines : goal.returns-in-Lines

@@ -1,6 +1,0 @@
-pub mod AnyLemmas
-pub mod LineLemmas
-pub mod MarkLemmas
-pub mod MeaningLemmas
-pub mod SieveLemmas
-pub mod SomethingLemmas
