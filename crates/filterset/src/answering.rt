@@ -1,15 +1,19 @@
 //! The answers to requests.
-ghost use Rattle.std.specs.Prelude.{◌≡◌, ◌<◌, IfErr, IfOk, OnOk, string_bytes};
+ghost use Rattle.std.specs.Prelude.{◌≡◌, ◌<◌, IfErr, IfOk, OnOk, map, string_bytes};
+ghost use Rattle.filterset_entries.specs.Checked.{text_row};
 ghost use Rattle.filterset_loading.specs.{Files.OrMemory, Words.IsInputFault, Words.input_count};
-ghost use Rattle.filterset.specs.Requests.{Answers, Faults, IsAnswered, IsFaultOf, IsInput};
+ghost use Rattle.filterset.specs.Requests.{Answers, Faults, IsAnswered, IsFaultOf, IsInput, IsInputFile, rows_of};
 
-use crate::texts::{check_given, format_given, input_file, simplify_given};
-use filterset_asking::ask;
-use filterset_entries::{Answer, Ending};
+use filterset_asking::{ask, check_texts, format_texts, simplify_texts};
+use filterset_display::Source as File;
+use filterset_entries::{Answer, Ending, TextEntry, given_entries, line_entries};
 use filterset_json::Source;
-use filterset_loading::{CommandFault, FileSource, Request, WithInput, read_input};
+use filterset_loading::{
+    CommandFault, FileSource, INPUT_NAME, Request, Texts, WithInput, read_input,
+};
 use filterset_verdicts::decide_given;
-use std::alloc::Global;
+use nextest_filtering::FiltersetKind;
+use std::alloc::{AllocError, Global};
 
 /// Answers a request. It may read standard input and files.
 pub fn answer<F: FileSource, R: Source>(
@@ -46,6 +50,28 @@ fn input_of<R: Source>(
     }
 }
 
+/// Makes a file of standard input, which has this text, to draw faults of its lines in.
+fn input_file(alloc: Global, input: &str) -> Result<File<'_>, AllocError>
+    ensures { IfOk result (IsInputFile input.now) }
+{
+    File::new(alloc, INPUT_NAME, input)
+}
+
+/// Makes the entries of the filtersets: the arguments, or the lines of standard input, which is this file.
+fn entries_of<'t>(
+    alloc: Global,
+    kind: FiltersetKind,
+    texts: &Texts<'t>,
+    file: &'t File<'t>,
+) -> Result<Vec<TextEntry<'t>>, AllocError>
+    ensures { IfOk result (λ entries. map text_row entries.items ≡ rows_of kind texts.now file.entry) }
+{
+    match texts {
+        Texts::Given(texts) => given_entries(alloc, "argument", kind, texts),
+        Texts::StandardInput => line_entries(alloc, file, kind, false),
+    }
+}
+
 /// Answers a request, where standard input has the text `input`, if the request is about that.
 fn answer_with<F: FileSource>(
     alloc: Global,
@@ -66,15 +92,18 @@ fn answer_with<F: FileSource>(
             paths,
         } => {
             let file = input_file(alloc, input)?;
-            check_given(alloc, &files, *form, paths, *kind, texts, &file)
+            let given = entries_of(alloc, *kind, texts, &file)?;
+            check_texts(alloc, &files, *form, paths, given)
         }
         Request::Format { form, texts } => {
             let file = input_file(alloc, input)?;
-            Ok(format_given(alloc, *form, texts, &file)?)
+            let given = entries_of(alloc, FiltersetKind::Test, texts, &file)?;
+            Ok(format_texts(alloc, *form, given.as_slice())?)
         }
         Request::Simplify { form, texts } => {
             let file = input_file(alloc, input)?;
-            Ok(simplify_given(alloc, *form, texts, &file)?)
+            let given = entries_of(alloc, FiltersetKind::Test, texts, &file)?;
+            Ok(simplify_texts(alloc, *form, given.as_slice())?)
         }
         Request::Decide(asked) => decide_given(alloc, &files, asked),
         Request::Ask(asked) => ask(alloc, &files, asked),

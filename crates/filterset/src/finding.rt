@@ -29,34 +29,24 @@ pub fn find_configuration(rt: &HostRuntime) -> Result<String, AllocError> {
     Ok(String::new(rt.alloc()))
 }
 
-/// Returns whether a request is to check, and names nothing to check.
-pub fn lacks_texts(request: &Request<'_>) -> bool {
-    match request {
-        Request::Check { texts, paths, .. } => {
-            matches!(texts, Texts::Given([])) && paths.configuration.is_none()
-        }
-        _ => false,
-    }
-}
-
-/// Puts the configuration at a path into a request to check.
-pub fn with_configuration<'w>(request: &Request<'w>, path: &'w str) -> Request<'w> {
+/// Returns a request to check that names nothing as one to check the configuration at a path. Returns `None` for any other.
+pub fn with_configuration<'w>(request: &Request<'w>, path: &'w str) -> Option<Request<'w>> {
     match request {
         Request::Check {
             kind,
             form,
-            texts,
+            texts: Texts::Given([]),
             paths,
-        } => Request::Check {
+        } if paths.configuration.is_none() => Some(Request::Check {
             kind: *kind,
             form: *form,
-            texts: *texts,
+            texts: Texts::Given(&[]),
             paths: CheckPaths {
                 configuration: Some(path),
                 ..*paths
             },
-        },
-        other => *other,
+        }),
+        _ => None,
     }
 }
 

@@ -52,10 +52,7 @@ fn is_given(options: &Value, key: &str) -> bool
 fn path_at<'v>(options: &'v Value, key: &str) -> Option<&'v str>
     ensures { option_map (λ t. t.now) result ≡ spec.path_at key.now (view options.entry.now) }
 {
-    match options.get(key) {
-        Some(found) => found.as_str(),
-        None => None,
-    }
+    options.get(key)?.as_str()
 }
 
 /// Returns what options say of a workspace.

@@ -12,17 +12,14 @@ mod language;
 mod output;
 mod run;
 mod serving;
-mod texts;
 
 use command_line::CommandLine;
 use ending::{Ended, status};
 use filterset_display::Ending as SessionEnding;
 use filterset_entries::Ending;
 use filterset_json::{FromReader, RunFault, ToWriter};
-use filterset_loading::{
-    CommandFault, HostFiles, Request, Task, WorkspacePaths, arguments, completion_script,
-};
-use finding::{find_configuration, lacks_texts, path_in, with_configuration};
+use filterset_loading::{CommandFault, HostFiles, Request, Task, arguments, completion_script};
+use finding::{find_configuration, path_in, with_configuration};
 use output::HostOutput;
 use run::run;
 use serving::serve_editor;
@@ -68,12 +65,12 @@ fn answer_found<'w>(
     request: &Request<'w>,
     nearest: &'w str,
 ) -> Result<Ended, CommandFault> {
-    if lacks_texts(request) {
+    if let Some(request) = with_configuration(request, nearest) {
         if nearest.is_empty() {
             return Err(CommandFault::NoConfiguration);
         }
         let _ = eprintln!(rt; "checks {nearest}");
-        return answer_request(rt, &with_configuration(request, nearest));
+        return answer_request(rt, &request);
     }
     let ended = answer_request(rt, request)?;
     if let Ended::Answered(Ending::Faulty) = ended
@@ -84,15 +81,8 @@ fn answer_found<'w>(
     Ok(ended)
 }
 
-/// Serves an editor on standard input and output.
-fn serve(rt: &HostRuntime, paths: Option<WorkspacePaths<'_>>) -> Result<Ended, CommandFault> {
-    let files = HostFiles { runtime: rt };
-    let mut input = FromReader::new(rt.stdin());
-    let mut output = ToWriter::new(rt.stdout());
-    Ok(Ended::Served(serve_editor(rt.alloc(), &files, paths, &mut input, &mut output)?))
-}
-
-/// Does what the command line asks for. The nearest configuration is at this path, which is empty if there is none.
+/// Does what the command line asks for: answers a request, or serves an editor on standard input and output. The nearest
+/// configuration is at this path, which is empty if there is none.
 fn perform<'w>(rt: &HostRuntime, task: &Task<'w>, nearest: &'w str) -> Result<Ended, CommandFault> {
     match task {
         Task::Answer(request) => answer_found(rt, request, nearest),
@@ -101,38 +91,30 @@ fn perform<'w>(rt: &HostRuntime, task: &Task<'w>, nearest: &'w str) -> Result<En
             let script = completion_script(rt.alloc(), *shell, &command)?;
             answer_request(rt, &Request::Show(script.as_str()))
         }
-        Task::Serve(paths) => serve(rt, *paths),
+        Task::Serve(paths) => {
+            let files = HostFiles { runtime: rt };
+            let mut input = FromReader::new(rt.stdin());
+            let mut output = ToWriter::new(rt.stdout());
+            let ending = serve_editor(rt.alloc(), &files, *paths, &mut input, &mut output)?;
+            Ok(Ended::Served(ending))
+        }
     }
 }
 
-/// Returns the path of the nearest configuration, if the words are those of `check`, and else an empty one.
-fn nearest_for(rt: &HostRuntime, words: &[String]) -> Result<String, AllocError> {
-    match words.get(1) {
-        Some(word) if word.as_str() == "check" => find_configuration(rt),
-        _ => Ok(String::new(rt.alloc())),
-    }
-}
-
-/// Runs the command of a line. The nearest configuration is at this path, which is empty if there is none.
-fn run_line<'w>(
-    rt: &HostRuntime,
-    line: &'w CommandLine,
-    nearest: &'w str,
-) -> Result<Ended, CommandFault> {
+/// Runs the command of these words. The nearest configuration is at this path, which is empty if there is none.
+fn run_words(rt: &HostRuntime, words: &[String], nearest: &str) -> Result<Ended, CommandFault> {
+    let line = CommandLine::read(rt.alloc(), words)?;
     let task = line.task()?;
     perform(rt, &task, nearest)
 }
 
-/// Runs the command of these words.
-fn run_words(rt: &HostRuntime, words: &[String], nearest: &str) -> Result<Ended, CommandFault> {
-    let line = CommandLine::read(rt.alloc(), words)?;
-    run_line(rt, &line, nearest)
-}
-
-/// Runs the command of the command line.
+/// Runs the command of the command line. Only `check` looks for the nearest configuration.
 fn run_command(rt: &HostRuntime) -> Result<Ended, CommandFault> {
     let words = words_of(rt)?;
-    let nearest = nearest_for(rt, words.as_slice())?;
+    let nearest = match words.get(1) {
+        Some(word) if word.as_str() == "check" => find_configuration(rt)?,
+        _ => String::new(rt.alloc()),
+    };
     run_words(rt, words.as_slice(), nearest.as_str())
 }
 

@@ -1,7 +1,7 @@
 //! The command `lsp`: a language server over standard input and output.
 ghost use Rattle.std.specs.Prelude.{◌≡◌, IfErr, IfOk, IsTrue, OnOk, Some, None, option_map};
 ghost use Rattle.std.specs.Io.KnownBytes.{prepend_known};
-ghost use Rattle.filterset_offers.specs.Workspaces.{known_of, workspace_row};
+ghost use Rattle.filterset_offers.specs.Workspaces.{known_of};
 ghost use Rattle.filterset.specs.Serving.{IsServiceFault, IsStreamFault, Serves, ServesIn, row_of};
 ghost use Rattle.filterset_loading.specs.Files.{OrMemory};
 
@@ -13,22 +13,15 @@ use filterset_loading::{CommandFault, FileSource, Workspace, WorkspacePaths, rea
 use filterset_offers::Workspace as KnownWorkspace;
 use std::alloc::Global;
 
-/// Returns what an editor is told of a workspace.
-fn known(workspace: &Workspace) -> KnownWorkspace<'_>
-    ensures { workspace_row result ≡ row_of workspace.now }
-{
-    KnownWorkspace {
-        graph: &workspace.graph,
-        suites: workspace.list.suites.as_slice(),
-    }
-}
-
 /// Returns what an editor is told of a workspace, if there is one.
-fn known_if(workspace: &Option<Workspace>) -> Option<KnownWorkspace<'_>>
+fn known(workspace: &Option<Workspace>) -> Option<KnownWorkspace<'_>>
     ensures { known_of result ≡ option_map row_of workspace.now }
 {
     match workspace {
-        Some(workspace) => Some(known(workspace)),
+        Some(workspace) => Some(KnownWorkspace {
+            graph: &workspace.graph,
+            suites: workspace.list.suites.as_slice(),
+        }),
         None => None,
     }
 }
@@ -55,26 +48,6 @@ fn serve_with<R: Source, W: Sink>(
     }
 }
 
-/// Serves an editor with the workspace that the files at these paths describe.
-fn serve_known<F: FileSource, R: Source, W: Sink>(
-    alloc: Global,
-    files: &F,
-    paths: &WorkspacePaths<'_>,
-    input: &mut R,
-    output: &mut W,
-) -> Result<Ending, CommandFault>
-    ensures session { IfOk result (Serves (F.content files.now) (F.fails files.now) (Some paths.now) (R.left input.old)
-        (R.left input.new) (W.taken output.old) (W.taken output.new)) }
-    ensures ended { IfOk result (λ ending. ending ≡ Ending.InputEnded → IsTrue (R.ended input.new)) }
-    ensures none_failed { OnOk result ((R.failed input.new ≡ R.failed input.old)
-        × (W.failed output.new ≡ W.failed output.old)) }
-    ensures refused { IfErr result (OrMemory (IsServiceFault (F.content files.now) (F.fails files.now) (Some paths.now)
-        (R.failed input.new) (W.failed output.new))) }
-{
-    let workspace = read_workspace(alloc, files, paths)?;
-    serve_with(alloc, Some(known(&workspace)), &[], input, output)
-}
-
 /// Serves an editor with the workspace that it names, if it names one.
 fn serve_named<F: FileSource, R: Source, W: Sink>(
     alloc: Global,
@@ -93,7 +66,7 @@ fn serve_named<F: FileSource, R: Source, W: Sink>(
     let opening = read_opening(alloc, input)?;
     let greeting = greet(alloc, files, &opening.options)?;
     write_all(output, greeting.shown.as_bytes())?;
-    let workspace = known_if(&greeting.workspace);
+    let workspace = known(&greeting.workspace);
     serve_with(alloc, workspace, &opening.read, input, output)
 }
 
@@ -118,7 +91,10 @@ pub fn serve_editor<F: FileSource, R: Source, W: Sink>(
         (R.failed input.new) (W.failed output.new))) }
 {
     match paths {
-        Some(paths) => serve_known(alloc, files, &paths, input, output),
+        Some(paths) => {
+            let workspace = Some(read_workspace(alloc, files, &paths)?);
+            serve_with(alloc, known(&workspace), &[], input, output)
+        }
         None => serve_named(alloc, files, input, output),
     }
 }

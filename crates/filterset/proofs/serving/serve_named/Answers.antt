@@ -16,7 +16,7 @@ returns-clause-session g c =
     let known : Option WorkspaceRow = option_map row_of greeting.workspace in
     let left = g.R.Source.left c.read_opening.new.input in
     let taken = g.W.Sink.taken c.write_all.new.output in
-    let session = rw (c.known_if-workspace.ensures, c.deref.ensures.value) at c.serve_with.ensures.session in
+    let session = rw (c.known-workspace.ensures, c.deref.ensures.value) at c.serve_with.ensures.session in
     IfOk-weaker c.serve_with.result _ _
     (λ ending served. (
       opening.read.items,
