@@ -11,7 +11,7 @@ use Rattle.filterset_graph.specs.declared.package.PackageMetadata.{PackageMetada
 use Rattle.filterset_configuration.specs.declared.{place.Place.Place, places.Places.Places}
 use Rattle.filterset_configuration.specs.{Profiles.HasProfiles, Wrong.AreWrongValues}
 use Rattle.filterset_configuration.specs.declared.{profiles.Profile.Profile, wrong.WrongValue.WrongValue}
-use Rattle.filterset_sources.specs.{Configurations.RefusesConfiguration, Metadata.RefusesMetadata}
+use Rattle.filterset_sources.specs.{Configurations.IsConfiguration, Configurations.RefusesConfiguration, Metadata.RefusesMetadata}
 use Rattle.filterset_sources.specs.declared.configuration.Configuration.{Configuration}
 use Rattle.filterset_loading.specs.Configurations.{HasNamed, IsConfigurationIn, IsRefusedProfile, LacksName}
 use Rattle.filterset_loading.specs.Files.{BySource, IsFileFault, name_of}
@@ -21,9 +21,9 @@ use Rattle.filterset_asking.specs.{Configured.WarnsOfFile, Values.IsValuePiece}
 use Rattle.filterset_asking.specs.Warned.{AnswersWarned, IsListedFault, either_ending, request_after}
 use Rattle.filterset_loading.specs.declared.fault.FileRole.TheVariants as roles
 
--- the configuration is that of the file with these bytes, and has nothing where there is no file
+-- the configuration is that of the file with these bytes, or of an empty text where there is no file
 abbrev pub KnownConfiguration : (Text → Option Text) → Option (Bor Text) → Text → Configuration → List (Option Place) → Type 0
-KnownConfiguration content None bytes c places = (c.filtersets.items ≡ []) × (c.groups.items ≡ []) × (bytes ≡ [])
+KnownConfiguration content None bytes c places = (bytes ≡ []) × IsConfiguration bytes c
 KnownConfiguration content (Some path) bytes c places = IsConfigurationIn (content path.now) bytes c places
 
 -- what the file of the configuration is called

@@ -1,5 +1,5 @@
 -- What `check` warns of, by a list of tests.
-use Rattle.std.specs.Prelude.{◌≡◌, ◌⊎◌, ◌==◌, List, [], ◌∷◌, Option, None, IfSome, IsSomeAnd, MatchOption, if◌then◌else◌}
+use Rattle.std.specs.Prelude.{◌≡◌, ◌⊎◌, ◌==◌, List, [], ◌∷◌, Option, None, IsSomeAnd, MatchOption, if◌then◌else◌}
 use Rattle.std.specs.{Borrow.Bor, List.AllZip, declared.io.Error.Error}
 use Rattle.serde_json.specs.Data.{Data}
 use Rattle.filterset_answers.specs.Binaries.{IsAsked}
@@ -11,11 +11,10 @@ use Rattle.filterset_graph.specs.declared.package.PackageMetadata.{PackageMetada
 use Rattle.filterset_listing.specs.declared.binary.AskedBinary.{AskedBinary}
 use Rattle.filterset_configuration.specs.Profiles.{HasProfiles}
 use Rattle.filterset_configuration.specs.declared.{profiles.Profile.Profile, wrong.WrongValue.WrongValue}
-use Rattle.filterset_sources.specs.{Configurations.IsConfiguration, Platforms.ArePlatforms}
-use Rattle.filterset_sources.specs.declared.{configuration.Configuration.Configuration, list.Suite.Suite}
+use Rattle.filterset_sources.specs.{Platforms.ArePlatforms, declared.list.Suite.Suite}
 use Rattle.filterset_sources.specs.declared.platforms.BuildPlatforms.{BuildPlatforms}
 use Rattle.filterset_asking.specs.Warnings.{AnswersWarnings, summary, warned_ending}
-use Rattle.filterset_asking.specs.{Asking.AnswersProfile, Asking.IsPlain, declared.warning.CheckedTexts.CheckedTexts}
+use Rattle.filterset_asking.specs.Asking.{AnswersProfile, IsPlain}
 use Rattle.nextest_filtering.specs.declared.compile.context.KnownGroups.{KnownGroups}
 use Rattle.filterset_loading.specs.Configurations.{AreKnown, IsRefusedProfile, IsSettingsFault, LacksProfile, profile_at}
 use Rattle.filterset_loading.specs.Files.{IsFileFault}
@@ -64,11 +63,6 @@ either_ending Fine second = second
 either_ending first second = first
 
 -- ---- what is not used
-
--- the file of the texts is a configuration, if there is one
-abbrev pub HasConfiguration : CheckedTexts → Type 0
-HasConfiguration texts =
-    IfSome texts.path (λ path. (c : Configuration) × IsConfiguration texts.configured.file.now.text.now c)
 
 -- what keeps a profile of the configuration with these bytes from being used, on the platforms of the list at this path
 abbrev pub IsProfileUnused : (Text → Option Text) → (Text → Error → Type 0) → Text → Text → Data → ProfileRequest

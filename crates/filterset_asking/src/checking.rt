@@ -1,28 +1,27 @@
 //! The command `check`: the faults of texts and of a configuration's filtersets, by the names that files give.
-ghost use Rattle.std.specs.Prelude.{◌≡◌, ◌++◌, IfErr, IfOk, IfSome, IsSomeAnd, OnOk, map, string_bytes};
+ghost use Rattle.std.specs.Prelude.{◌≡◌, ◌++◌, IfErr, IfOk, IsSomeAnd, OnOk, map, string_bytes};
 ghost use Rattle.filterset_entries.specs.{Checked.text_row, Entries.rows_in};
 ghost use Rattle.nextest_filtering.specs.Groups.{IsKnown};
-ghost use Rattle.filterset_sources.specs.Configurations.{IsConfiguration, RefusesConfiguration};
-ghost use Rattle.filterset_sources.specs.declared.configuration.Configuration as configurations;
+ghost use Rattle.filterset_sources.specs.Configurations.{RefusesConfiguration};
 ghost use Rattle.filterset_asking.specs.Checking.{AnswersCheck, ChecksAll, ChecksKnown, HasAsked, IsCheckFault, IsUnchecked, KnownConfiguration, LacksAsked, file_name};
 ghost use Rattle.filterset_asking.specs.Warned.{request_after};
 ghost use Rattle.filterset_loading.specs.Files.{BySource, IsFileFault, OrMemory};
 
-use crate::configured::warn_configuration;
+use crate::configured::{CheckedFile, warn_configuration};
 use crate::values::add_values;
 use crate::warning::{CheckedTexts, join_answers, warn_checked};
 use filterset_answers::check;
 use filterset_configuration::{WrongValue, find_wrong_values};
 use filterset_display::{Form, Source};
 use filterset_entries::{
-    Answer, ConfiguredTexts, Names, TextEntry, WarningEnd, configured_entries, configured_texts,
+    Answer, Names, TextEntry, WarningEnd, configured_entries, configured_texts,
 };
 use filterset_graph::PackageGraph;
 use filterset_loading::{
     CheckPaths, CommandFault, ConfigurationFile, FileRole, FileSource, WarningRequest,
     known_packages, lineage_of, name_of, profiles_in, read_configuration_file, request_of,
 };
-use filterset_sources::Configuration;
+use filterset_sources::ParsedText;
 use std::alloc::{AllocError, Global};
 
 /// Reads the configuration. Without a file it has no filtersets and no groups.
@@ -65,23 +64,21 @@ fn request_after<'w>(
     }
 }
 
-/// Finds the profile of the configuration, which has this text, if it has no wrong values.
+/// Finds the profile of the configuration, if it has no wrong values.
 fn find_asked(
     alloc: Global,
     paths: &CheckPaths<'_>,
-    text: &str,
+    parsed: ParsedText<'_>,
     values: &[WrongValue],
 ) -> Result<(), CommandFault>
-    requires { IfSome paths.now.configuration
-        (λ path. (c : configurations.Configuration) × IsConfiguration text.now c) }
-    ensures found { OnOk result (HasAsked paths.now text.now values.now) }
+    ensures found { OnOk result (HasAsked paths.now parsed.entry.text.now values.now) }
     ensures refused { IfErr result (OrMemory (λ fault. IsSomeAnd paths.now.configuration
-        (λ path. LacksAsked path.now paths.now.profile.now text.now fault))) }
+        (λ path. LacksAsked path.now paths.now.profile.now parsed.entry.text.now fault))) }
 {
     let ([], Some(path)) = (values, paths.configuration) else {
         return Ok(());
     };
-    let profiles = profiles_in(alloc, path, text)?;
+    let profiles = profiles_in(alloc, path, parsed)?;
     let request = request_of(path, paths.profile);
     match lineage_of(alloc, &request, profiles.as_slice()) {
         Ok(_) => Ok(()),
@@ -98,19 +95,17 @@ fn check_all<'c, F: FileSource>(
     paths: CheckPaths<'c>,
     graph: &'c PackageGraph,
     names: &'c Names<'_>,
-    configured: ConfiguredTexts<'c>,
+    configured: CheckedFile<'c>,
     given: Vec<TextEntry<'c>>,
 ) -> Result<Answer, CommandFault>
-    requires groups { IsKnown names.now.known_groups }
-    requires configuration { IfSome paths.configuration (λ path. (c : configurations.Configuration)
-        × IsConfiguration configured.file.now.text.now c) }
+    requires { IsKnown names.now.known_groups }
     ensures answered { IfOk result (λ answer. ChecksAll (F.content files.now) form graph.now names.now paths.entry
-        configured.entry (map text_row given.entry.items) answer.ending (string_bytes answer.text)) }
+        configured.entry.texts (map text_row given.entry.items) answer.ending (string_bytes answer.text)) }
     ensures refused { IfErr result (OrMemory (IsUnchecked (F.content files.now) (F.fails files.now) graph.now
-        paths.entry configured.entry.file.now.text.now)) }
+        paths.entry configured.entry.texts.file.now.text.now)) }
 {
     let mut given = given;
-    let mut entries = configured_entries(alloc, configured)?;
+    let mut entries = configured_entries(alloc, configured.texts)?;
     entries.append(&mut given)?;
     let own = warn_configuration(alloc, form, configured)?;
     let texts = CheckedTexts {
@@ -125,12 +120,14 @@ fn check_all<'c, F: FileSource>(
             before: own.count,
         },
     };
-    let values = find_wrong_values(alloc, configured.file.text)?;
+    let (text, file) = (configured.texts.file.text, configured.file);
+    let parsed = ParsedText { text, file };
+    let values = find_wrong_values(alloc, parsed)?;
     let values = values.as_slice();
     let checked = check(alloc, names, form, texts.entries)?;
-    let answer = add_values(alloc, form, configured.file, values, checked)?;
+    let answer = add_values(alloc, form, configured.texts.file, values, checked)?;
     let request = request_after(values, paths.warnings);
-    find_asked(alloc, &paths, configured.file.text, values)?;
+    find_asked(alloc, &paths, parsed, values)?;
     let warnings = warn_checked(alloc, files, request, &texts)?;
     Ok(join_answers(alloc, answer, own.text.as_str(), warnings)?)
 }
@@ -153,12 +150,19 @@ pub fn check_texts<F: FileSource>(
         configuration,
         places,
     } = known_configuration(alloc, files, paths.configuration)?;
-    let Configuration { filtersets, groups } = configuration;
     let graph = known_packages(alloc, files, paths.metadata)?;
     let (has_packages, has_groups) = (paths.metadata.is_some(), paths.configuration.is_some());
-    let names = Names::new(alloc, &graph, has_packages, groups, has_groups)?;
-    let file = Source::new(alloc, file_name(paths.configuration), text.as_str())?;
-    let configured = configured_texts(&file, filtersets.as_slice(), &places);
+    let names = Names::new(
+        alloc,
+        &graph,
+        has_packages,
+        configuration.groups,
+        has_groups,
+    )?;
+    let source = Source::new(alloc, file_name(paths.configuration), text.as_str())?;
+    let texts = configured_texts(&source, configuration.filtersets.as_slice(), &places);
+    let file = &configuration.file;
+    let configured = CheckedFile { texts, file };
     check_all(
         alloc, files, form, *paths, &graph, &names, configured, given,
     )

@@ -2,23 +2,23 @@
 ghost use Rattle.std.specs.Prelude.{◌≡◌, ◌⊎◌, ◌++◌, IfErr, IfOk, IsSomeAnd, None, map, string_bytes};
 ghost use Rattle.serde_json.specs.View.{view};
 ghost use Rattle.filterset_entries.specs.Checked.{text_row};
-ghost use Rattle.filterset_sources.specs.Configurations.{IsConfiguration};
-ghost use Rattle.filterset_sources.specs.declared.configuration.Configuration as configurations;
 ghost use Rattle.nextest_filtering.specs.Groups.{IsKnown};
 ghost use Rattle.filterset_asking.specs.Asking.{AnswersIn, Lacks};
-ghost use Rattle.filterset_asking.specs.Warned.{AnswersListed, AnswersWarned, HasConfiguration, IsListedFault, IsProfileUnused, WarnsBy, either_ending};
+ghost use Rattle.filterset_asking.specs.Warned.{AnswersListed, AnswersWarned, IsListedFault, IsProfileUnused, WarnsBy, either_ending};
 ghost use Rattle.filterset_loading.specs.{Files.OrMemory, Configurations.profile_at};
 
 use crate::asking::{AskedWorkspace, Wanted, ask_plainly};
+use crate::configured::CheckedFile;
 use crate::profiled::ask_profile;
 use crate::setting::count_warnings;
 use filterset_display::Form;
-use filterset_entries::{Answer, ConfiguredTexts, Ending, TextEntry, WarningEnd};
+use filterset_entries::{Answer, Ending, TextEntry, WarningEnd};
 use filterset_graph::PackageGraph;
 use filterset_loading::{
     CommandFault, FileSource, ProfileRequest, WarningRequest, platforms_of, profiles_in,
     read_facts, read_list,
 };
+use filterset_sources::ParsedText;
 use nextest_filtering::KnownGroups;
 use serde_json::Value;
 use std::alloc::{AllocError, Global};
@@ -31,7 +31,7 @@ pub struct CheckedTexts<'c> {
     pub groups: &'c KnownGroups,
     /// The path of the configuration, if there is one.
     pub path: Option<&'c str>,
-    pub configured: ConfiguredTexts<'c>,
+    pub configured: CheckedFile<'c>,
     /// The texts: those of the configuration, and after them the others.
     pub entries: &'c [TextEntry<'c>],
     /// How many warnings come before those of the list, and whether any are denied.
@@ -47,18 +47,16 @@ fn warn_configured<F: FileSource>(
     profile: &ProfileRequest<'_>,
     value: &Value,
 ) -> Result<Answer, CommandFault>
-    requires groups { IsKnown texts.now.groups.now }
-    requires configuration { (c : configurations.Configuration)
-        × IsConfiguration texts.now.configured.file.now.text.now c }
+    requires { IsKnown texts.now.groups.now }
     ensures answered { IfOk result (λ answer. WarnsBy (F.content files.now) (AnswersIn asked.now None) asked.now.graph.now
-        texts.now.groups.now texts.now.configured profile.now (view value.now) answer.ending (string_bytes answer.text)) }
+        texts.now.groups.now texts.now.configured.texts profile.now (view value.now) answer.ending (string_bytes answer.text)) }
     ensures refused { IfErr result (OrMemory (λ fault. Lacks asked.now fault
-        ⊎ IsProfileUnused (F.content files.now) (F.fails files.now) texts.now.configured.file.now.text.now
+        ⊎ IsProfileUnused (F.content files.now) (F.fails files.now) texts.now.configured.texts.file.now.text.now
         asked.now.list.now (view value.now) profile.now fault)) }
 {
     let built = platforms_of(alloc, asked.list, value)?;
-    let text = texts.configured.file.text;
-    let profiles = profiles_in(alloc, profile.configuration, text)?;
+    let (text, file) = (texts.configured.texts.file.text, texts.configured.file);
+    let profiles = profiles_in(alloc, profile.configuration, ParsedText { text, file })?;
     let known = read_facts(alloc, files, profile, built)?;
     ask_profile(
         alloc,
@@ -66,7 +64,7 @@ fn warn_configured<F: FileSource>(
         profile,
         profiles.as_slice(),
         texts.groups,
-        texts.configured,
+        texts.configured.texts,
         None,
         &known,
         None,
@@ -80,13 +78,12 @@ fn warn_listed<'x, F: FileSource>(
     request: &WarningRequest<'x>,
     texts: &CheckedTexts<'x>,
 ) -> Result<Answer, CommandFault>
-    requires groups { IsKnown texts.now.groups.now }
-    requires configuration { HasConfiguration texts.now }
+    requires { IsKnown texts.now.groups.now }
     ensures answered { IfOk result (λ answer. AnswersListed (F.content files.now) texts.now.form texts.now.end
-        texts.now.graph.now texts.now.groups.now texts.now.path texts.now.configured (map text_row texts.now.entries.now)
+        texts.now.graph.now texts.now.groups.now texts.now.path texts.now.configured.texts (map text_row texts.now.entries.now)
         request.now answer.ending (string_bytes answer.text)) }
     ensures refused { IfErr result (OrMemory (IsListedFault (F.content files.now) (F.fails files.now) texts.now.graph.now
-        texts.now.path texts.now.configured.file.now.text.now request.now)) }
+        texts.now.path texts.now.configured.texts.file.now.text.now request.now)) }
 {
     let (path, run_ignored) = (request.paths.list, request.paths.run_ignored);
     let (list, value) = read_list(alloc, files, path, texts.graph, run_ignored)?;
@@ -116,13 +113,12 @@ pub fn warn_checked<'x, F: FileSource>(
     request: Option<WarningRequest<'x>>,
     texts: &CheckedTexts<'x>,
 ) -> Result<Answer, CommandFault>
-    requires groups { IsKnown texts.now.groups.now }
-    requires configuration { HasConfiguration texts.now }
+    requires { IsKnown texts.now.groups.now }
     ensures answered { IfOk result (λ answer. AnswersWarned (F.content files.now) texts.now.form texts.now.end
-        texts.now.graph.now texts.now.groups.now texts.now.path texts.now.configured (map text_row texts.now.entries.now)
+        texts.now.graph.now texts.now.groups.now texts.now.path texts.now.configured.texts (map text_row texts.now.entries.now)
         request.entry answer.ending (string_bytes answer.text)) }
     ensures refused { IfErr result (OrMemory (λ fault. IsSomeAnd request.entry (λ asked. IsListedFault (F.content files.now)
-        (F.fails files.now) texts.now.graph.now texts.now.path texts.now.configured.file.now.text.now asked fault))) }
+        (F.fails files.now) texts.now.graph.now texts.now.path texts.now.configured.texts.file.now.text.now asked fault))) }
 {
     match request {
         Some(request) => warn_listed(alloc, files, &request, texts),

@@ -1,12 +1,12 @@
 -- Keys of a configuration that are not read, and are near one that is.
-use Rattle.std.specs.Prelude.{◌≡◌, ◌+◌, ◌++◌, ◌⊎◌, ◌&&◌, ℕ, Bool, List, [], ◌∷◌, IfSome, IsFalse, IsTrue, MatchOption, Some, bytes_eq, codes, flat_map, length, map, string_bytes}
+use Rattle.std.specs.Prelude.{◌≡◌, ◌+◌, ◌++◌, ◌⊎◌, ◌&&◌, ℕ, Bool, List, [], ◌∷◌, IfSome, IsFalse, IsTrue, bytes_eq, codes, flat_map, length, map, string_bytes}
 use Rattle.std.specs.{List.list_any, Option.option_map_or}
-use Rattle.toml.specs.{Data.Data, Data.table, Data.Members, Data.as_table, Parse.parse_document}
+use Rattle.toml.specs.Data.{Data, as_table}
 use Rattle.filterset_faults.specs.{Span.span, declared.span.SourceSpan.SourceSpan}
 use Rattle.filterset_json.specs.{Paths.key_text, Shape.Text}
 use Rattle.filterset_configuration.specs.Edits.{IsMeant}
 use Rattle.filterset_configuration.specs.declared.{keys.FoundKey.FoundKey, unknown.UnknownKey.UnknownKey}
-use Rattle.filterset_sources.specs.{Configurations.keys_of, Sections.SectionRow, Sections.sections_of}
+use Rattle.filterset_sources.specs.{Configurations.IsFile, Configurations.keys_of, Sections.SectionRow, Sections.sections_of}
 use Rattle.filterset_sources.specs.declared.sections.SectionKind.{SectionKind}
 use Rattle.filterset_sources.specs.declared.sections.SectionKind.TheVariants.{File, Profile, Override, Script}
 
@@ -53,9 +53,9 @@ is_renamed rows row = list_any (λ other. bytes_eq other.prefix row.prefix && by
 
 -- The span is that of the key: with a letter behind the key there, which has no such key, the file has it.
 abbrev pub IsKeyPlace : Text → List KeyRow → KeyRow → SourceSpan → Type 0
-IsKeyPlace text rows row s = (before : Text) × (after : Text) × (ms : Members)
+IsKeyPlace text rows row s = (before : Text) × (after : Text) × (file : Data)
     × (text ≡ before ++ (row.key ++ after)) × (s ≡ span (length before) (length row.key)) × IsFalse (is_renamed rows row)
-    × (parse_document (before ++ (row.key ++ (codes "_" ++ after))) ≡ Some ms) × IsTrue (is_renamed (found_keys (table ms)) row)
+    × IsFile (before ++ (row.key ++ (codes "_" ++ after))) file × IsTrue (is_renamed (found_keys file) row)
 
 -- what is said of a key that is meant for this name
 abbrev pub IsUnknownKey : Text → List KeyRow → KeyRow → Text → UnknownKey → Type 0
@@ -74,7 +74,6 @@ Finds Judges at [] found = found ≡ []
 Finds {R} {F} Judges at (row ∷ rows) found = (front : List F) × (rest : List F) × (found ≡ front ++ rest)
     × Judges at row front × Finds Judges (at + 1) rows rest
 
--- these are the keys of a file that are not read and are near one that is; there are none in a text that is no TOML
+-- these are the keys of a file that are not read and are near one that is
 abbrev pub AreUnknownKeys : Text → List UnknownKey → Type 0
-AreUnknownKeys text found = MatchOption (parse_document text) (found ≡ [])
-    (λ ms. Finds (Judged text (found_keys (table ms))) 0 (found_keys (table ms)) found)
+AreUnknownKeys text found = (file : Data) × IsFile text file × Finds (Judged text (found_keys file)) 0 (found_keys file) found

@@ -1,9 +1,9 @@
 -- What nextest's configuration says of profiles. What is missing is as if it were empty.
 use Rattle.std.specs.Prelude.{◌≡◌, ◌||◌, Bool, false, List, [], ◌∷◌, Option, None, Some, String, IsSome, IsSomeAnd, IsTrue, MatchOption, bytes_eq, codes, filter, if◌then◌else◌, is_none, is_some, map, not, option_and_then, string_bytes, unwrap_or, zip}
 use Rattle.std.specs.{List.AllZip, List.list_any, Option.option_map_or, declared.alloc.Global.Global}
-use Rattle.toml.specs.Data.{Data, string, array, table, no_items, Members, no_members, as_table, get}
-use Rattle.toml.specs.{Parse.parse_document, View.items_of, View.members_of}
-use Rattle.filterset_sources.specs.Configurations.{keys_of}
+use Rattle.toml.specs.Data.{Data, string, array, table, no_items, no_members, as_table, get}
+use Rattle.toml.specs.View.{items_of, members_of}
+use Rattle.filterset_sources.specs.Configurations.{IsFile, keys_of}
 use Rattle.filterset_configuration.specs.{PlatformGrammar.Spells, PlatformTrees.spec_of}
 use Rattle.filterset_configuration.specs.declared.platforms.filter.PlatformFilter.{PlatformFilter}
 use Rattle.filterset_configuration.specs.declared.platforms.specification.PlatformSpec.{PlatformSpec}
@@ -78,5 +78,4 @@ AreProfiles file d ps =
 -- the text is TOML with these profiles
 abbrev pub HasProfiles : Text → List Profile → Type 0
 HasProfiles text ps =
-    (file : Members) × (parse_document text ≡ Some file)
-    × AreProfiles (table file) (unwrap_or (get (codes "profile") (table file)) (table no_members)) ps
+    (file : Data) × IsFile text file × AreProfiles file (unwrap_or (get (codes "profile") file) (table no_members)) ps

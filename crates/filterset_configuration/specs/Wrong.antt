@@ -1,8 +1,8 @@
 -- Which values of a configuration's profiles are wrong, other than its filtersets.
-use Rattle.std.specs.Prelude.{◌≡◌, ◌++◌, ◌||◌, ◌⊎◌, ℕ, List, [], ◌∷◌, Some, IfSome, IsTrue, MatchOption, codes, flat_map, if◌then◌else◌, is_none, is_some, map, option_and_then, option_map, option_to_list, slice_get, string_bytes}
+use Rattle.std.specs.Prelude.{◌≡◌, ◌++◌, ◌||◌, ◌⊎◌, ℕ, List, [], ◌∷◌, Some, IfSome, IsTrue, codes, flat_map, if◌then◌else◌, is_none, is_some, map, option_and_then, option_map, option_to_list, slice_get, string_bytes}
 use Rattle.std.specs.Option.{option_map_or}
-use Rattle.toml.specs.Data.{Data, table, Members, no_members, member, as_str, as_table, get}
-use Rattle.toml.specs.{Parse.parse_document, View.view}
+use Rattle.toml.specs.Data.{Data, Members, no_members, member, as_str, as_table, get}
+use Rattle.toml.specs.View.{view}
 use Rattle.filterset_json.specs.{Paths.key_text, Shape.Text}
 use Rattle.filterset_configuration.specs.{Keys.Finds, Numbers.AreApart, Numbers.numbered, Places.IsNumberedPlace}
 use Rattle.filterset_configuration.specs.declared.{place.Place.Place, stretch.Stretch.Stretch}
@@ -14,6 +14,7 @@ use Rattle.filterset_configuration.specs.declared.{checking.CheckedFile.CheckedF
 use Rattle.filterset_configuration.specs.declared.wrong.{ProfileValue.ProfileValue, ValueRole.ValueRole}
 use Rattle.filterset_configuration.specs.declared.wrong.ValueRole.TheVariants.{ForBoth, ForNothing, Group, NoCircle, NoText, Parent, Platform, ReservedGroup, ReservedProfile}
 use Rattle.filterset_configuration.specs.declared.wrong.WrongValue.{WrongValue}
+use Rattle.filterset_sources.specs.Configurations.{IsFile}
 use Rattle.filterset_sources.specs.Sections.{SectionRow, below, members_under, sections_of}
 use Rattle.filterset_sources.specs.declared.sections.SectionKind.{SectionKind}
 use Rattle.filterset_sources.specs.declared.sections.SectionKind.TheVariants as kinds
@@ -105,8 +106,8 @@ expected ReservedGroup = codes "a name that does not begin with `@`"
 -- this literal as its text.
 abbrev pub IsValuePlace : Text → ℕ → ValueRow → Place → Type 0
 IsValuePlace file at row place =
-    (literals : List Stretch) × (ms : Members) × (other : ValueRow) × AreApart 0 literals
-    × (parse_document (numbered file literals) ≡ Some ms) × (slice_get (values_of (table ms)) at ≡ Some other)
+    (literals : List Stretch) × (made : Data) × (other : ValueRow) × AreApart 0 literals
+    × IsFile (numbered file literals) made × (slice_get (values_of made) at ≡ Some other)
     × (other.path ≡ row.path) × IsNumberedPlace literals file row.text other.text place
 
 -- what is said of a wrong value
@@ -119,15 +120,14 @@ abbrev pub Judged : Text → Data → ℕ → ValueRow → List WrongValue → T
 Judged text file at row found = (IsRight file row.role row.text × (found ≡ []))
     ⊎ ((¬ IsRight file row.role row.text) × (w : WrongValue) × (found ≡ w ∷ []) × IsWrongValue text at row w)
 
--- these are the wrong values of a file; there are none in a text that is no TOML
+-- these are the wrong values of a file
 abbrev pub AreWrongValues : Text → List WrongValue → Type 0
-AreWrongValues text found = MatchOption (parse_document text) (found ≡ [])
-    (λ ms. Finds (Judged text (table ms)) 0 (values_of (table ms)) found)
+AreWrongValues text found = (file : Data) × IsFile text file × Finds (Judged text file) 0 (values_of file) found
 
 -- these are the values of the file with some of its literals replaced by their numbers
 abbrev pub AreNumbered : Text → NumberedValues → Type 0
-AreNumbered file n = AreApart 0 n.numbering.literals.items × (ms : Members)
-    × (parse_document (numbered file n.numbering.literals.items) ≡ Some ms) × (value_rows n.values.items ≡ values_of (table ms))
+AreNumbered file n = AreApart 0 n.numbering.literals.items × (made : Data)
+    × IsFile (numbered file n.numbering.literals.items) made × (value_rows n.values.items ≡ values_of made)
 
 -- a file is known: its values with numbers, and which of its profiles fall back on themselves
 abbrev pub IsKnown : CheckedFile → Type 0

@@ -13,7 +13,7 @@ use crate::platforms::{PlatformRefusal, PlatformSpec};
 use crate::values::{has_member, is_group};
 use crate::walking::values_of;
 use crate::wrong::{ProfileValue, ValueRole, WrongValue};
-use filterset_sources::{SourceRefusal, file_of};
+use filterset_sources::ParsedText;
 use std::alloc::{AllocError, Global};
 use toml::Value;
 
@@ -80,10 +80,18 @@ fn push_wrong(
     Ok(())
 }
 
-/// Finds the wrong values of a file.
-fn wrong_in(alloc: Global, text: &str, file: &Value) -> Result<Vec<WrongValue>, AllocError>
-    ensures { IfOk result (λ found. Finds (Judged text.now (view file.now)) 0 (values_of (view file.now)) found.items) }
+/// Finds the values of a configuration that are wrong, other than its filtersets, each with its place: what a profile
+/// inherits from if it is no profile, or falls back on that profile; a group that the file lacks; what is no platform; an
+/// override that is for nothing; and a name of a profile or of a group that is reserved.
+///
+/// Each place is right. That each text has one is tested only. Returns an error only if out of memory.
+pub fn find_wrong_values(
+    alloc: Global,
+    parsed: ParsedText<'_>,
+) -> Result<Vec<WrongValue>, AllocError>
+    ensures { IfOk result (λ found. AreWrongValues parsed.entry.text.now found.items) }
 {
+    let (text, file) = (parsed.text, parsed.file);
     let found = values_of(alloc, file)?;
     let values = found.as_slice();
     let checked = CheckedFile {
@@ -97,19 +105,4 @@ fn wrong_in(alloc: Global, text: &str, file: &Value) -> Result<Vec<WrongValue>, 
         push_wrong(&mut wrong, alloc, &checked, at, value)?;
     }
     Ok(wrong)
-}
-
-/// Finds the values of a configuration that are wrong, other than its filtersets, each with its place: what a profile
-/// inherits from if it is no profile, or falls back on that profile; a group that the file lacks; what is no platform; an
-/// override that is for nothing; and a name of a profile or of a group that is reserved.
-///
-/// Each place is right. That each text has one is tested only. Returns an error only if out of memory.
-pub fn find_wrong_values(alloc: Global, text: &str) -> Result<Vec<WrongValue>, AllocError>
-    ensures { IfOk result (λ found. AreWrongValues text.now found.items) }
-{
-    match file_of(alloc, text) {
-        Ok(file) => wrong_in(alloc, text, &Value::Table(file)),
-        Err(SourceRefusal::OutOfMemory(refused)) => Err(refused),
-        Err(_) => Ok(Vec::new(alloc)),
-    }
 }

@@ -8,7 +8,6 @@ use crate::walking::values_of;
 use crate::wrong::ProfileValue;
 use filterset_sources::{SourceRefusal, file_of};
 use std::alloc::{AllocError, Global};
-use toml::Value;
 
 /// The values of a file with the numbers of some of its strings in their place.
 #[derive(Drop)]
@@ -33,8 +32,8 @@ pub(crate) fn numbered_values(
         return Ok(None);
     };
     match file_of(alloc, numbering.text.as_str()) {
-        Ok(table) => {
-            let values = values_of(alloc, &Value::Table(table))?;
+        Ok(file) => {
+            let values = values_of(alloc, &file)?;
             Ok(Some(NumberedValues { numbering, values }))
         }
         Err(SourceRefusal::OutOfMemory(refused)) => Err(refused),

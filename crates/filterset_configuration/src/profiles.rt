@@ -2,15 +2,15 @@
 ghost use Rattle.std.specs.Prelude.{◌≡◌, List, IfErr, IfOk, string_bytes};
 ghost use Rattle.toml.specs.{Data.table, View.table_view, View.view};
 ghost use Rattle.filterset_configuration.specs.Profiles.{AreProfiles, HasProfiles, IsProfile};
-ghost use Rattle.filterset_configuration.specs.Refusals.{Refuses, RefusesText};
+ghost use Rattle.filterset_configuration.specs.Refusals.{Refuses};
 ghost use Rattle.filterset_configuration.specs.declared.profiles.Profile.{Profile};
 
 use crate::overrides::{Override, read_overrides};
 use crate::paths::profile_path;
 use crate::refusal::ProfileRefusal;
 use crate::values::{read_keys_but, read_text, wrong_at};
-use filterset_sources::{SourceRefusal, file_of};
-use std::alloc::{AllocError, Global};
+use filterset_sources::ParsedText;
+use std::alloc::Global;
 use toml::{Table, Value};
 
 /// A profile.
@@ -70,20 +70,16 @@ fn read_members(
 
 /// Reads the profiles of a configuration, as `.config/nextest.toml` has them, by the order of their names. Ignores all
 /// other keys.
-pub fn read_profiles(alloc: Global, text: &str) -> Result<Vec<Profile>, ProfileRefusal>
-    ensures read { IfOk result (λ v. HasProfiles text.now v.items) }
-    ensures refused { IfErr result (RefusesText text.now) }
+pub fn read_profiles(alloc: Global, parsed: ParsedText<'_>) -> Result<Vec<Profile>, ProfileRefusal>
+    ensures read { IfOk result (λ v. HasProfiles parsed.entry.text.now v.items) }
+    ensures refused { IfErr result (Refuses ((ps : List Profile) × HasProfiles parsed.entry.text.now ps)) }
 {
-    let file = match file_of(alloc, text) {
-        Ok(file) => Value::Table(file),
-        Err(SourceRefusal::NotToml { error, .. }) => return Err(ProfileRefusal::NotToml(error)),
-        Err(_) => return Err(ProfileRefusal::OutOfMemory(AllocError)),
-    };
+    let file = parsed.file;
     let Some(found) = file.get("profile") else {
         return Ok(Vec::new(alloc));
     };
     match found.as_table() {
-        Some(members) => read_members(alloc, &file, members),
+        Some(members) => read_members(alloc, file, members),
         None => Err(wrong_at(alloc, "profile", "a table")?),
     }
 }

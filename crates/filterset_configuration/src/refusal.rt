@@ -5,8 +5,6 @@ use std::fmt;
 /// Why a configuration is refused.
 #[derive(Debug, Drop)]
 pub enum ProfileRefusal {
-    /// The text is not TOML.
-    NotToml(toml::de::Error),
     /// The value at the path is wrong.
     Wrong {
         /// As `profile.ci.overrides[2].platform`.
@@ -21,7 +19,6 @@ pub enum ProfileRefusal {
 impl fmt::Display for ProfileRefusal {
     fn fmt<W: fmt::Write>(&self, f: &mut fmt::Formatter<W>) -> fmt::Result {
         match self {
-            ProfileRefusal::NotToml(error) => write!(f, "not TOML: {error}"),
             ProfileRefusal::Wrong { path, expected } => write!(f, "`{path}` must be {expected}"),
             ProfileRefusal::OutOfMemory(_) => f.write_str("out of memory"),
         }

@@ -1,7 +1,8 @@
 //! Finds keys of a configuration that are not read, and are near one that is.
 ghost use Rattle.std.specs.Prelude.{◌≡◌, ◌++◌, IfOk, IfSome, IsTrue, List, OnOk, Some, codes, length};
 ghost use Rattle.std.specs.Bool.{OnTrue};
-ghost use Rattle.toml.specs.{Data.Members, Data.table, Parse.parse_document};
+ghost use Rattle.toml.specs.Data.{Data};
+ghost use Rattle.filterset_sources.specs.Configurations.{IsFile};
 ghost use Rattle.filterset_configuration.specs.Keys.{AreUnknownKeys, Finds, IsKeyPlace, Judged, found_keys, is_renamed, key_row, key_rows};
 ghost use Rattle.filterset_configuration.specs.declared.unknown.UnknownKey.{UnknownKey};
 
@@ -10,9 +11,8 @@ use crate::keys::{FoundKey, found_keys, names_of};
 use crate::string::is_same;
 use filterset_faults::SourceSpan;
 use filterset_json::{Step, step_text};
-use filterset_sources::{SourceRefusal, file_of};
+use filterset_sources::{ParsedText, SourceRefusal, file_of};
 use std::alloc::{AllocError, Global};
-use toml::Value;
 
 /// A key of a configuration that is not read, and is near one that is.
 #[derive(Debug, Drop)]
@@ -69,12 +69,11 @@ fn reads_renamed(
     renamed: &str,
 ) -> Result<bool, AllocError>
     requires { renamed.now ≡ found.now.key.now ++ codes "_" }
-    ensures { IfOk result (λ is. OnTrue is ((ms : Members) × (parse_document text.now ≡ Some ms)
-        × IsTrue (is_renamed (found_keys (table ms)) (key_row found.now)))) }
+    ensures { IfOk result (λ is. OnTrue is ((file : Data) × IsFile text.now file
+        × IsTrue (is_renamed (found_keys file) (key_row found.now)))) }
 {
     match file_of(alloc, text) {
         Ok(file) => {
-            let file = Value::Table(file);
             let keys = found_keys(alloc, &file)?;
             Ok(is_renamed(keys.as_slice(), found, renamed))
         }
@@ -140,35 +139,22 @@ fn push_unknown(
     Ok(())
 }
 
-/// Finds the unknown ones of the keys of a file.
-fn unknown_among(
+/// Finds the keys of a configuration that are not read, and are within two edits of one that is read in the same table: of the
+/// file, of a profile, and of the items of its lists `overrides` and `scripts`.
+///
+/// Each place is right. That each key has one is tested only. Returns an error only if out of memory.
+pub fn find_unknown_keys(
     alloc: Global,
-    text: &str,
-    keys: &[FoundKey<'_>],
+    parsed: ParsedText<'_>,
 ) -> Result<Vec<UnknownKey>, AllocError>
-    ensures { IfOk result (λ unknown. Finds (Judged text.now (key_rows keys.now)) 0 (key_rows keys.now) unknown.items) }
+    ensures { IfOk result (λ unknown. AreUnknownKeys parsed.entry.text.now unknown.items) }
 {
+    let text = parsed.text;
+    let all = found_keys(alloc, parsed.file)?;
+    let keys = all.as_slice();
     let mut unknown = Vec::new(alloc);
     for found in keys {
         push_unknown(&mut unknown, alloc, text, keys, found)?;
     }
     Ok(unknown)
-}
-
-/// Finds the keys of a configuration that are not read, and are within two edits of one that is read in the same table: of the
-/// file, of a profile, and of the items of its lists `overrides` and `scripts`. A text that is no TOML has none.
-///
-/// Each place is right. That each key has one is tested only. Returns an error only if out of memory.
-pub fn find_unknown_keys(alloc: Global, text: &str) -> Result<Vec<UnknownKey>, AllocError>
-    ensures { IfOk result (λ unknown. AreUnknownKeys text.now unknown.items) }
-{
-    match file_of(alloc, text) {
-        Ok(file) => {
-            let file = Value::Table(file);
-            let keys = found_keys(alloc, &file)?;
-            unknown_among(alloc, text, keys.as_slice())
-        }
-        Err(SourceRefusal::OutOfMemory(refused)) => Err(refused),
-        Err(_) => Ok(Vec::new(alloc)),
-    }
 }

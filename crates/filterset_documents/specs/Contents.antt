@@ -1,6 +1,6 @@
 -- What documents hold, and whether a document holds the same as another but with other texts.
-use Rattle.std.specs.Prelude.{◌≡◌, ◌⊎◌, Bool, false, true, List, [], ◌∷◌, MatchBool, None, Option, Some, String, Vec, is_none, map, option_map, string_bytes, unwrap_or}
-use Rattle.std.specs.{Bool.Decides, Borrow.Bor, declared.alloc.Global.Global}
+use Rattle.std.specs.Prelude.{◌≡◌, ◌⊎◌, Bool, false, true, List, [], ◌∷◌, MatchBool, None, Option, Some, is_none, map, option_map, string_bytes, unwrap_or}
+use Rattle.std.specs.{Bool.Decides, Borrow.Bor}
 use Rattle.filterset_entries.specs.{Checked.TextRow, Checked.text_row, Entries.line_rows, Entries.rows_in}
 use Rattle.filterset_entries.specs.declared.entries.ConfiguredTexts.{ConfiguredTexts}
 use Rattle.filterset_display.specs.declared.source.Source.{Source}
@@ -10,7 +10,7 @@ use Rattle.filterset_sources.specs.Configurations.{IsConfiguration, RefusesConfi
 use Rattle.filterset_sources.specs.declared.configuration.Configuration.{Configuration}
 use Rattle.filterset_sources.specs.declared.refusal.SourceRefusal.{SourceRefusal}
 use Rattle.filterset_documents.specs.Filtersets.{AreTexts, AreTextsOf, SaysWhy}
-use Rattle.filterset_documents.specs.declared.content.{Content.Content, Filtersets.Filtersets}
+use Rattle.filterset_documents.specs.declared.content.{Background.Background, Content.Content, Filtersets.Filtersets}
 use Rattle.filterset_documents.specs.declared.content.Filtersets.TheVariants.{Configured, Lines}
 
 -- the filtersets of a document, and the names of the groups of a configuration
@@ -19,8 +19,8 @@ pub record ContentRow : Type 0 where
   pub rows : List TextRow
 
 -- the names of the groups of a configuration
-abbrev pub names_in : Option (Vec (String Global) Global) → Option (List Text)
-names_in groups = option_map (λ g. map (λ s. string_bytes s) g.items) groups
+abbrev pub names_in : Option Background → Option (List Text)
+names_in background = option_map (λ b. map (λ s. string_bytes s) b.groups.items) background
 
 abbrev pub content_row : Content → ContentRow
 content_row c = record {

@@ -1,16 +1,18 @@
 //! What documents hold.
-ghost use Rattle.std.specs.Prelude.{◌≡◌, IfErr, IfOk, List, false, map};
+ghost use Rattle.std.specs.Prelude.{◌≡◌, IfErr, IfOk, IfSome, List, false, map};
+ghost use Rattle.toml.specs.View.{view};
 ghost use Rattle.filterset_entries.specs.Checked.{TextRow, text_row};
-ghost use Rattle.filterset_sources.specs.Configurations.{RefusesConfiguration};
+ghost use Rattle.filterset_sources.specs.Configurations.{IsFile, RefusesConfiguration};
 ghost use Rattle.filterset_documents.specs.Contents.{AreRowsOf, Holds, content_row, names_in};
 ghost use Rattle.filterset_documents.specs.Filtersets.{SaysWhy};
 
 use filterset_configuration::Places;
 use filterset_display::Source;
 use filterset_entries::{TextEntry, configured_entries, configured_texts, line_entries};
-use filterset_sources::{Configuration, ConfiguredFilterset, SourceRefusal, read_configuration};
+use filterset_sources::{ConfiguredFilterset, SourceRefusal, read_configuration};
 use nextest_filtering::FiltersetKind;
 use std::alloc::{AllocError, Global};
+use toml::Value;
 
 /// The filtersets of a document: the lines of a file, or those of a configuration with their places in its file.
 #[derive(Debug, Drop)]
@@ -34,11 +36,18 @@ impl Filtersets<'_> {
     }
 }
 
-/// A document that was read: its filtersets, and the names of the test groups of a configuration.
+/// What a document has beside its filtersets: the names of its test groups, and what its text was parsed as.
+#[derive(Debug, Drop)]
+pub struct Background {
+    pub groups: Vec<String>,
+    pub file: Value,
+}
+
+/// A document that was read: its filtersets, and what else there is of a configuration.
 #[derive(Debug, Drop)]
 pub struct OpenDocument<'t> {
     pub filtersets: Filtersets<'t>,
-    pub groups: Option<Vec<String>>,
+    pub background: Option<Background>,
 }
 
 impl<'t> OpenDocument<'t> {
@@ -50,7 +59,8 @@ impl<'t> OpenDocument<'t> {
         is_list: bool,
     ) -> Result<OpenDocument<'t>, SourceRefusal>
         ensures read { IfOk result (λ document. (rows : List TextRow) → AreRowsOf document.filtersets rows
-            → Holds is_list text.entry.now (record { groups = names_in document.groups; rows = rows })) }
+            → Holds is_list text.entry.now (record { groups = names_in document.background; rows = rows })) }
+        ensures parsed { IfOk result (λ document. IfSome document.background (λ b. IsFile text.entry.now (view b.file))) }
         ensures refused { IfErr result (RefusesConfiguration text.entry.now) }
         ensures configuration { IfErr result (λ refusal. SaysWhy refusal → is_list ≡ false) }
     {
@@ -58,25 +68,27 @@ impl<'t> OpenDocument<'t> {
         if is_list {
             return Ok(OpenDocument {
                 filtersets: Filtersets::Lines(file),
-                groups: None,
+                background: None,
             });
         }
         let configuration = read_configuration(alloc, text)?;
         let places = Places::of(alloc, text, &configuration)?;
-        let Configuration { filtersets, groups } = configuration;
         Ok(OpenDocument {
-            filtersets: Filtersets::Configured(file, filtersets, places),
-            groups: Some(groups),
+            filtersets: Filtersets::Configured(file, configuration.filtersets, places),
+            background: Some(Background {
+                groups: configuration.groups,
+                file: configuration.file,
+            }),
         })
     }
 
     /// Returns what the document holds, of which these are the entries.
     pub fn content<'g, 'e>(&'g self, entries: &'e [TextEntry<'_>]) -> Content<'g, 'e>
         ensures { content_row result
-            ≡ record { groups = names_in self.entry.now.groups; rows = map text_row entries.entry.now } }
+            ≡ record { groups = names_in self.entry.now.background; rows = map text_row entries.entry.now } }
     {
-        let groups = match &self.groups {
-            Some(groups) => Some(groups.as_slice()),
+        let groups = match &self.background {
+            Some(background) => Some(background.groups.as_slice()),
             None => None,
         };
         Content { groups, entries }

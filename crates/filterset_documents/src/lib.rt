@@ -14,7 +14,7 @@ mod trees;
 mod unread;
 mod values;
 
-pub use content::{Content, Filtersets, OpenDocument};
+pub use content::{Background, Content, Filtersets, OpenDocument};
 pub use diagnostics::{diagnostic_at, remark_value};
 pub use filterset_entries::leaf_span;
 pub use offsets::{entry_at, is_in};

@@ -1,6 +1,8 @@
 //! The diagnostics of filtersets.
-ghost use Rattle.std.specs.Prelude.{◌≡◌, IfOk, map, option_map};
+ghost use Rattle.std.specs.Prelude.{◌≡◌, IfOk, IfSome, map, option_map};
 ghost use Rattle.serde_json.specs.View.{view};
+ghost use Rattle.toml.specs.View as tables;
+ghost use Rattle.filterset_sources.specs.Configurations.{IsFile};
 ghost use Rattle.filterset_entries.specs.{Checked.text_row, Placements.placement_of};
 ghost use Rattle.nextest_filtering.specs.Groups.{IsKnown};
 ghost use Rattle.filterset_documents.specs.Contents.{names_in};
@@ -8,6 +10,7 @@ ghost use Rattle.filterset_documents.specs.Diagnostics.{AreDiagnosed, DiagnosesC
 ghost use Rattle.filterset_documents.specs.Joins.{Joins};
 ghost use Rattle.filterset_display.specs.Remarks.{remark_row};
 
+use crate::content::Background;
 use crate::diagnostics::remark_value;
 use crate::ranges::Shown;
 use crate::unread::diagnose_unread;
@@ -16,6 +19,7 @@ use filterset_display::Remark;
 use filterset_entries::{FilePlace, Names, TextEntry, faults_of, file_part};
 use filterset_faults::SourceSpan;
 use filterset_graph::PackageGraph;
+use filterset_sources::ParsedText;
 use serde_json::Value;
 use std::alloc::{AllocError, Global};
 
@@ -67,24 +71,27 @@ fn diagnose_rows(
     Ok(values)
 }
 
-/// Makes the diagnostics of the filtersets of a document, which is a configuration if it has groups. Then the warnings of its
+/// Makes the diagnostics of the filtersets of a document, which is a configuration if it has a background. Then the warnings of its
 /// other values follow, and of what nextest does not read of it.
 pub fn diagnose_entries(
     alloc: Global,
     shown: &Shown<'_>,
-    groups: Option<Vec<String>>,
+    background: Option<Background>,
     entries: &[TextEntry<'_>],
 ) -> Result<Vec<Value>, AllocError>
+    requires { IfSome background (λ b. IsFile shown.now.lines.text.now (tables.view b.file)) }
     ensures { IfOk result (λ values. DiagnosesContent shown.now.encoding shown.now.lines.text.now
-        (record { groups = names_in groups; rows = map text_row entries.now }) (map view values.items)) }
+        (record { groups = names_in background; rows = map text_row entries.now }) (map view values.items)) }
 {
     let graph = PackageGraph::empty(alloc);
-    match groups {
-        Some(groups) => {
+    match background {
+        Some(Background { groups, file }) => {
+            let text = shown.lines.text;
+            let parsed = ParsedText { text, file: &file };
             let known = Names::new(alloc, &graph, false, groups, true)?;
             let mut values = diagnose_rows(alloc, shown, &known, entries)?;
-            let mut warnings = diagnose_values(alloc, shown)?;
-            let mut unread = diagnose_unread(alloc, shown, entries)?;
+            let mut warnings = diagnose_values(alloc, shown, parsed)?;
+            let mut unread = diagnose_unread(alloc, shown, parsed, entries)?;
             warnings.append(&mut unread)?;
             values.append(&mut warnings)?;
             Ok(values)

@@ -9,6 +9,7 @@ use crate::ranges::Shown;
 use filterset_configuration::{WrongValue, find_wrong_values};
 use filterset_display::Severity;
 use filterset_faults::SourceSpan;
+use filterset_sources::ParsedText;
 use serde_json::Value;
 use std::alloc::{AllocError, Global};
 
@@ -39,11 +40,16 @@ fn value_warning(alloc: Global, shown: &Shown<'_>, wrong: &WrongValue) -> Result
 }
 
 /// Makes the warnings of the wrong values of a configuration, other than its filtersets, in their order.
-pub(crate) fn diagnose_values(alloc: Global, shown: &Shown<'_>) -> Result<Vec<Value>, AllocError>
+pub(crate) fn diagnose_values(
+    alloc: Global,
+    shown: &Shown<'_>,
+    parsed: ParsedText<'_>,
+) -> Result<Vec<Value>, AllocError>
+    requires { parsed.text.now ≡ shown.now.lines.text.now }
     ensures { IfOk result (λ values.
         AreValueWarnings shown.now.encoding shown.now.lines.text.now (map view values.items)) }
 {
-    let found = find_wrong_values(alloc, shown.lines.text)?;
+    let found = find_wrong_values(alloc, parsed)?;
     let mut values = Vec::with_capacity(alloc, found.len())?;
     for wrong in &found {
         values.push(value_warning(alloc, shown, wrong)?)?;

@@ -10,6 +10,7 @@ use filterset_configuration::{UnknownKey, find_unknown_keys};
 use filterset_display::{Remark, Severity};
 use filterset_faults::SourceSpan;
 use filterset_rewriting::tokens::carets_in;
+use filterset_sources::ParsedText;
 use std::alloc::{AllocError, Global};
 
 /// Returns where a span of a text is in its file, if the text was found there.
@@ -68,19 +69,19 @@ fn key_remark(alloc: Global, key: &UnknownKey) -> Result<Remark, AllocError>
     })
 }
 
-/// Makes the remarks on what nextest does not read of a configuration with this text, whose filtersets these are: on each
-/// operator `^` of them, in their order, and then on each key that is near one that is read. Their spans are those of the file.
+/// Makes the remarks on what nextest does not read of a configuration, whose filtersets these are: on each operator `^` of
+/// them, in their order, and then on each key that is near one that is read. Their spans are those of the file.
 ///
 /// Returns an error only if out of memory.
 pub fn unread_remarks(
     alloc: Global,
-    text: &str,
+    parsed: ParsedText<'_>,
     entries: &[TextEntry<'_>],
 ) -> Result<Vec<Remark>, AllocError>
     ensures { IfOk result (λ remarks.
-        AreUnreadRemarks text.now (map text_row entries.now) (map remark_row remarks.items)) }
+        AreUnreadRemarks parsed.entry.text.now (map text_row entries.now) (map remark_row remarks.items)) }
 {
-    let keys = find_unknown_keys(alloc, text)?;
+    let keys = find_unknown_keys(alloc, parsed)?;
     let mut remarks = Vec::new(alloc);
     for entry in entries {
         push_carets(&mut remarks, alloc, entry)?;

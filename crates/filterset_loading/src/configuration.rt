@@ -1,6 +1,6 @@
 //! Nextest's configuration.
 ghost use Rattle.std.specs.Prelude.{◌≡◌, IfErr, IfOk, [], string_bytes};
-ghost use Rattle.filterset_sources.specs.Configurations.{RefusesConfiguration};
+ghost use Rattle.filterset_sources.specs.Configurations.{IsConfiguration, RefusesConfiguration};
 ghost use Rattle.filterset_loading.specs.Configurations.{IsConfigurationIn};
 ghost use Rattle.filterset_loading.specs.Files.{BySource, IsFileFault, OrMemory};
 
@@ -9,6 +9,7 @@ use crate::files::{FileSource, read_text};
 use filterset_configuration::Places;
 use filterset_sources::{Configuration, read_configuration};
 use std::alloc::Global;
+use toml::{Table, Value};
 
 /// A configuration, the text that it was read from, and where its filtersets are in it.
 #[derive(Drop)]
@@ -21,8 +22,7 @@ pub struct ConfigurationFile {
 impl ConfigurationFile {
     /// Makes the file of a configuration that has nothing.
     pub fn empty(alloc: Global) -> ConfigurationFile
-        ensures filtersets { result.configuration.filtersets.items ≡ [] }
-        ensures groups { result.configuration.groups.items ≡ [] }
+        ensures configuration { IsConfiguration [] result.configuration }
         ensures text { string_bytes result.text ≡ [] }
     {
         ConfigurationFile {
@@ -30,6 +30,7 @@ impl ConfigurationFile {
             configuration: Configuration {
                 filtersets: Vec::new(alloc),
                 groups: Vec::new(alloc),
+                file: Value::Table(Table::new(alloc)),
             },
             places: Places {
                 places: Vec::new(alloc),

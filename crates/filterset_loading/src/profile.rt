@@ -1,12 +1,10 @@
 //! What files say of the profiles of a configuration, and of the platforms by which their overrides apply.
 ghost use Rattle.std.specs.Prelude.{◌≡◌, ◌⊎◌, IfErr, IfOk, map, string_bytes};
 ghost use Rattle.filterset_configuration.specs.{Lineages.IsLineageFault, Lineages.Lineage, Profiles.HasProfiles};
-ghost use Rattle.filterset_sources.specs.Configurations.{IsConfiguration};
-ghost use Rattle.filterset_sources.specs.declared.configuration.Configuration as configurations;
 ghost use Rattle.filterset_loading.specs.Configurations.{AreKnown, AreProfilesIn, AreSettings, IsRefusedProfile, IsSettingsFault, LacksProfile, RefusesFile};
 ghost use Rattle.filterset_loading.specs.Files.{IsFileFault, OrMemory};
 
-use crate::configuration::{ConfigurationFile, read_configuration_file};
+use crate::configuration::read_configuration_file;
 use crate::fault::{CommandFault, FileFault, FileRole};
 use crate::files::{FileSource, name_of, read_text};
 use filterset_configuration::{
@@ -14,7 +12,7 @@ use filterset_configuration::{
     read_cfg, read_profiles,
 };
 use filterset_sources::{
-    BuildPlatforms, Configuration, ConfiguredFilterset, SourceRefusal, WrongValue,
+    BuildPlatforms, ConfiguredFilterset, ParsedText, SourceRefusal, WrongValue,
 };
 use std::alloc::{AllocError, Global};
 
@@ -47,20 +45,22 @@ pub struct KnownPlatforms {
     pub target: PlatformFacts,
 }
 
-/// Reads the profiles of the configuration at a path, which is TOML.
-pub fn profiles_in(alloc: Global, path: &str, text: &str) -> Result<Vec<Profile>, CommandFault>
-    requires { (c : configurations.Configuration) × IsConfiguration text.now c }
-    ensures read { IfOk result (λ profiles. HasProfiles text.now profiles.items) }
-    ensures refused { IfErr result (OrMemory (IsRefusedProfile text.now path.now)) }
+/// Reads the profiles of the configuration at a path.
+pub fn profiles_in(
+    alloc: Global,
+    path: &str,
+    parsed: ParsedText<'_>,
+) -> Result<Vec<Profile>, CommandFault>
+    ensures read { IfOk result (λ profiles. HasProfiles parsed.entry.text.now profiles.items) }
+    ensures refused { IfErr result (OrMemory (IsRefusedProfile parsed.entry.text.now path.now)) }
 {
-    match read_profiles(alloc, text) {
+    match read_profiles(alloc, parsed) {
         Ok(profiles) => Ok(profiles),
         Err(ProfileRefusal::Wrong { path: at, expected }) => {
             let wrong = SourceRefusal::WrongValue(WrongValue { path: at, expected });
             Err(CommandFault::from_refusal(alloc, FileRole::Configuration, path, wrong))
         }
         Err(ProfileRefusal::OutOfMemory(refused)) => Err(CommandFault::from(refused)),
-        Err(ProfileRefusal::NotToml(_)) => unreachable!(),
     }
 }
 
@@ -74,18 +74,14 @@ pub fn read_profiles_file<F: FileSource>(
     ensures refused { IfErr result (OrMemory (IsFileFault (F.content files.now) (F.fails files.now)
         FileRole.Configuration RefusesFile path.now)) }
 {
-    let ConfigurationFile {
-        text,
-        configuration,
-        places,
-    } = read_configuration_file(alloc, files, path)?;
-    let profiles = profiles_in(alloc, path, text.as_str())?;
-    let Configuration { filtersets, groups } = configuration;
+    let read = read_configuration_file(alloc, files, path)?;
+    let (text, file) = (read.text.as_str(), &read.configuration.file);
+    let profiles = profiles_in(alloc, path, ParsedText { text, file })?;
     Ok(ProfilesFile {
-        text,
-        filtersets,
-        places,
-        groups,
+        text: read.text,
+        filtersets: read.configuration.filtersets,
+        places: read.places,
+        groups: read.configuration.groups,
         profiles,
     })
 }

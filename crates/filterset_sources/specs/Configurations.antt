@@ -1,8 +1,8 @@
 -- What nextest's configuration says of filtersets and groups.
-use Rattle.std.specs.Prelude.{◌≡◌, ◌+◌, ◌++◌, ◌==◌, ℕ, List, [], ◌∷◌, None, Some, Result, Ok, Err, codes, count_by, map, string_bytes, take}
+use Rattle.std.specs.Prelude.{◌≡◌, ◌+◌, ◌++◌, ◌==◌, ℕ, List, [], ◌∷◌, None, Some, Result, Ok, Err, codes, count_by, map, option_map, string_bytes, take}
 use Rattle.std.specs.Option.{option_map_or}
 use Rattle.toml.specs.Data.{Data, table, Members, no_members, member, as_str, get}
-use Rattle.toml.specs.{Errors.span_start, Parse.parse_document}
+use Rattle.toml.specs.{Errors.span_start, Parse.parse_document, View.view}
 use Rattle.filterset_json.specs.{Places.Place, Shape.Text}
 use Rattle.filterset_sources.specs.Sections.{SectionRow, below, members_under, sections_of, wrong_shape}
 use Rattle.filterset_sources.specs.declared.configuration.Configuration.{Configuration}
@@ -62,11 +62,15 @@ abbrev pub keys_of : Members → List Text
 keys_of no_members = []
 keys_of (member key d ms) = key ∷ keys_of ms
 
+-- the text is TOML with this data
+abbrev pub IsFile : Text → Data → Type 0
+IsFile text file = ∥ option_map table (parse_document text) ≡ Some file ∥₁
+
 -- the text is a file that has these filtersets, in its order but with profiles by their names, and these groups
 abbrev pub IsConfiguration : Text → Configuration → Type 0
-IsConfiguration text c = (ms : Members) × (parse_document text ≡ Some ms)
-    × (all_filters (sections_of (table ms)) ≡ Ok (configured_rows c.filtersets.items))
-    × (map (λ s. string_bytes s) c.groups.items ≡ keys_of (members_under (codes "test-groups") (table ms)))
+IsConfiguration text c = IsFile text (view c.file)
+    × (all_filters (sections_of (view c.file)) ≡ Ok (configured_rows c.filtersets.items))
+    × (map (λ s. string_bytes s) c.groups.items ≡ keys_of (members_under (codes "test-groups") (view c.file)))
 
 -- the line of an offset, from 1
 abbrev pub line_at : Text → ℕ → ℕ
@@ -80,6 +84,6 @@ RefusesToml text refusal = ⊥
 
 -- the same; or the text is no configuration, and this is its first wrong place
 abbrev pub RefusesConfiguration : Text → SourceRefusal → Type 0
-RefusesConfiguration text (WrongValue wrong) = (ms : Members) × (parse_document text ≡ Some ms)
-    × (all_filters (sections_of (table ms)) ≡ Err (string_bytes wrong.path, wrong.expected.now))
+RefusesConfiguration text (WrongValue wrong) = (file : Data) × IsFile text file
+    × (all_filters (sections_of file) ≡ Err (string_bytes wrong.path, wrong.expected.now))
 RefusesConfiguration text refusal = RefusesToml text refusal

@@ -1,7 +1,7 @@
 //! Reads the filtersets and test groups of nextest's configuration.
-ghost use Rattle.std.specs.Prelude.{◌≡◌, Err, IfErr, IfOk, Ok, OnOk, Some, codes, map, string_bytes};
-ghost use Rattle.toml.specs.{Parse.parse_document, View.table_view, View.view};
-ghost use Rattle.filterset_sources.specs.Configurations.{IsConfiguration, RefusesConfiguration, RefusesToml, all_filters, configured_rows, filter_under, followed_by, key_name, keys_of, line_at, section_filters};
+ghost use Rattle.std.specs.Prelude.{◌≡◌, Err, IfErr, IfOk, Ok, OnOk, codes, map, string_bytes};
+ghost use Rattle.toml.specs.View.{table_view, view};
+ghost use Rattle.filterset_sources.specs.Configurations.{IsConfiguration, IsFile, RefusesConfiguration, RefusesToml, all_filters, configured_rows, filter_under, followed_by, key_name, keys_of, line_at, section_filters};
 ghost use Rattle.filterset_sources.specs.Refusals.{Refuses};
 ghost use Rattle.filterset_sources.specs.Sections.{members_under, section_row, section_rows};
 
@@ -47,6 +47,16 @@ pub struct Configuration {
     pub filtersets: Vec<ConfiguredFilterset>,
     /// The names of the test groups.
     pub groups: Vec<String>,
+    /// What the text was parsed as.
+    pub file: Value,
+}
+
+/// The text of a configuration, and what it was parsed as.
+#[derive(Clone, Copy)]
+pub struct ParsedText<'t> {
+    pub text: &'t str,
+    pub file: &'t Value,
+    ghost is_file: { IsFile text.now (view file.now) },
 }
 
 /// Adds the filterset under a key of the value at `path`, if there is one.
@@ -149,12 +159,12 @@ fn line_of(text: &str, at: usize) -> usize
 }
 
 /// Parses a text as TOML.
-pub fn file_of(alloc: Global, text: &str) -> Result<Table, SourceRefusal>
-    ensures read { IfOk result (λ file. parse_document text.now ≡ Some (table_view file)) }
+pub fn file_of(alloc: Global, text: &str) -> Result<Value, SourceRefusal>
+    ensures read { IfOk result (λ file. IsFile text.now (view file)) }
     ensures refused { IfErr result (RefusesToml text.now) }
 {
     match toml::table_from_str(alloc, text) {
-        Ok(file) => Ok(file),
+        Ok(file) => Ok(Value::Table(file)),
         Err(error) => match error.span() {
             Some(span) => Err(SourceRefusal::NotToml {
                 error,
@@ -170,10 +180,14 @@ pub fn read_configuration(alloc: Global, text: &str) -> Result<Configuration, So
     ensures read { IfOk result (IsConfiguration text.now) }
     ensures refused { IfErr result (RefusesConfiguration text.now) }
 {
-    let file = Value::Table(file_of(alloc, text)?);
-    let sections = sections_of(alloc, &file)?;
+    let file = file_of(alloc, text)?;
+    let filtersets = {
+        let sections = sections_of(alloc, &file)?;
+        filtersets_of(alloc, sections.as_slice())?
+    };
     Ok(Configuration {
-        filtersets: filtersets_of(alloc, sections.as_slice())?,
+        filtersets,
         groups: groups_of(alloc, &file)?,
+        file,
     })
 }

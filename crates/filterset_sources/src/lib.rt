@@ -11,7 +11,9 @@ mod platforms;
 mod refusal;
 mod sections;
 
-pub use configuration::{Configuration, ConfiguredFilterset, FilterKey, file_of, read_configuration};
+pub use configuration::{
+    Configuration, ConfiguredFilterset, FilterKey, ParsedText, file_of, read_configuration,
+};
 pub use filterset_json::WrongValue;
 pub use json::read_json;
 pub use list::{RunIgnored, Suite, SuiteStatus, TestList, check_packages, read_test_list};

@@ -1,18 +1,19 @@
 use Rattle.std.proofs.Common.{rules, ◌≡◌, ◌∙◌, List, ap, inr, string_bytes, subst, sym}
 use Rattle.std.proofs.lemmas.Result.{IfErr-weaker, IfOk-weaker}
-use Rattle.std.specs.{Borrow.Bor, Prelude.IfSome, Prelude.None, Prelude.Option, Prelude.Some, Prelude.is_some}
+use Rattle.std.specs.{Borrow.Bor, Prelude.None, Prelude.Option, Prelude.Some, Prelude.is_some}
+use Rattle.toml.specs.View.{view}
 use Rattle.filterset_display.specs.{Columns.Text, declared.source.Source.Source}
 use Rattle.filterset_configuration.specs.declared.place.Place.{Place}
-use Rattle.filterset_sources.specs.{Configurations.IsConfiguration, declared.configuration.Configuration.Configuration}
+use Rattle.filterset_sources.specs.{Configurations.IsFile, declared.configuration.Configuration.Configuration}
 use Rattle.filterset_asking.specs.Checking.{IsCheckFault, IsUnchecked, KnownConfiguration}
 use Rattle.filterset_loading.proofs.FaultLemmas.{OrMemory-weaker}
 use Rattle.filterset_asking.proofs.checking.check_texts.Goals as goal
 
--- what is known as a configuration is one, if there is a file
-known_is : (content : Text → Option Text) (path : Option (Bor Text)) (bytes : Text) (configuration : Configuration) (places : List (Option Place))
-    → KnownConfiguration content path bytes configuration places → IfSome path (λ p. (c : Configuration) × IsConfiguration bytes c)
-known_is content None bytes configuration places is = tt
-known_is content (Some p) bytes configuration places is = (configuration, is.1)
+-- what is known as a configuration is one
+known_is : (content : Text → Option Text) (path : Option (Bor Text)) (bytes : Text) (c : Configuration) (places : List (Option Place))
+    → KnownConfiguration content path bytes c places → IsFile bytes (view c.file)
+known_is content None bytes c places is = is.1.0
+known_is content (Some p) bytes c places is = is.1.0
 
 abbrev origin_of : Source → Text
 origin_of s = s.origin.now
@@ -20,18 +21,18 @@ origin_of s = s.origin.now
 abbrev text_of : Source → Text
 text_of s = s.text.now
 
-pub check_all-requires-clause-configuration : goal.check_all-requires-clause-configuration
-check_all-requires-clause-configuration g c =
+pub configured-is_file : goal.configured-is_file
+configured-is_file g c =
     let file = c.in_ok-text.field-0 in
-    let path = c.args.paths.now.configuration in
-    let bytes = ap text_of c.configured_texts-configured.ensures.file ∙ c.in_ok-file.ensures.text ∙ c.as_str.ensures.value in
-    subst (λ t. IfSome path (λ p. (c : Configuration) × IsConfiguration t c)) (sym bytes) (known_is _ path (string_bytes file.text) file.configuration file.places.places.items c.in_ok-text.ensures.known)
+    let bytes = ap text_of c.configured_texts-texts.ensures.file ∙ c.in_ok-source.ensures.text ∙ c.as_str.ensures.value in
+    subst (λ t. IsFile t (view file.configuration.file)) (sym bytes)
+    (known_is _ c.args.paths.now.configuration (string_bytes file.text) file.configuration file.places.places.items c.in_ok-text.ensures.known)
 
 pub returns-clause-answered : goal.returns-clause-answered
 returns-clause-answered g c =
     let file = c.in_ok-text.field-0 in
-    let texts = c.configured_texts-configured.result in
-    let parts = c.configured_texts-configured.ensures in
+    let texts = c.configured_texts-texts.result in
+    let parts = c.configured_texts-texts.ensures in
     let packages : c.is_some-has_packages.result ≡ is_some c.args.paths.now.metadata = search rules in
     let groups : c.is_some-has_groups.result ≡ is_some c.args.paths.now.configuration = search rules in
     let names = rw (packages, groups) at c.in_ok-names.ensures.names in
@@ -45,8 +46,8 @@ returns-clause-answered g c =
       c.in_ok-graph.ensures.known,
       c.in_ok-text.ensures.known,
       (
-        ap origin_of parts.file ∙ c.in_ok-file.ensures.origin ∙ c.file_name.ensures,
-        ap text_of parts.file ∙ c.in_ok-file.ensures.text ∙ c.as_str.ensures.value,
+        ap origin_of parts.file ∙ c.in_ok-source.ensures.origin ∙ c.file_name.ensures,
+        ap text_of parts.file ∙ c.in_ok-source.ensures.text ∙ c.as_str.ensures.value,
         parts.filtersets ∙ c.as_slice.ensures.value,
         parts.places,
       ),
@@ -61,8 +62,8 @@ returns-clause-refused g c =
     let paths = c.args.paths.now in
     let file = c.in_ok-text.field-0 in
     let graph = c.in_ok-graph.graph in
-    let bytes = ap text_of c.configured_texts-configured.ensures.file ∙ c.in_ok-file.ensures.text ∙ c.as_str.ensures.value in
-    IfErr-weaker c.check_all.result _ _ (OrMemory-weaker (IsUnchecked content fails graph paths c.configured_texts-configured.result.file.now.text.now)
+    let bytes = ap text_of c.configured_texts-texts.ensures.file ∙ c.in_ok-source.ensures.text ∙ c.as_str.ensures.value in
+    IfErr-weaker c.check_all.result _ _ (OrMemory-weaker (IsUnchecked content fails graph paths c.configured_texts-texts.result.file.now.text.now)
     (IsCheckFault content fails paths)
     (λ fault wrong. inr (inr (
       graph,

@@ -26,7 +26,7 @@ returns-clause-refused g c =
     let profile = c.args.profile.now in
     let profiles = c.in_ok-profiles.profiles.items in
     let Unused : CommandFault → Type 0 =
-    IsProfileUnused content fails c.args.texts.now.configured.file.now.text.now asked.list.now (view c.args.value.now) profile in
+    IsProfileUnused content fails c.args.texts.now.configured.texts.file.now.text.now asked.list.now (view c.args.value.now) profile in
     let told = rw c.as_slice.ensures.value at c.ask_profile.ensures.missing in
     IfErr-weaker c.ask_profile.result _ _ (OrMemory-weaker (λ (fault : CommandFault). Lacks asked fault ⊎ LacksProfile profile profiles fault)
     (λ (fault : CommandFault). Lacks asked fault ⊎ Unused fault)

@@ -1,14 +1,15 @@
 use Rattle.std.proofs.Common.{refl, subst, sym}
+use Rattle.toml.specs.View.{view}
 use Rattle.filterset_display.specs.Columns.{Text}
 use Rattle.filterset_configuration.specs.Profiles.{HasProfiles}
-use Rattle.filterset_sources.specs.Configurations.{IsConfiguration}
+use Rattle.filterset_sources.specs.Configurations.{IsFile}
 use Rattle.filterset_loading.proofs.profile.read_profiles_file.Goals as goal
 
-pub profiles_in-requires : goal.profiles_in-requires
-profiles_in-requires g c =
+pub parsed-is_file : goal.parsed-is_file
+parsed-is_file g c =
     let configuration = c.in_ok-text.field-0.configuration in
-    let IsHere : Text → Type 0 = λ bytes. IsConfiguration bytes configuration in
-    (configuration, subst IsHere (sym c.as_str.ensures.value) c.in_ok-text.ensures.read.1)
+    let IsHere : Text → Type 0 = λ bytes. IsFile bytes (view configuration.file) in
+    subst IsHere (sym c.as_str.ensures.value) c.in_ok-text.ensures.read.1.0
 
 pub returns-clause-read : goal.returns-clause-read
 returns-clause-read g c =

@@ -20,15 +20,18 @@ says_why encoding text (OutOfMemory refused) d is = absurd is
 
 pub returns-in-Ok : goal.returns-in-Ok
 returns-in-Ok c =
-    let content : ContentRow = record { groups = names_in c.in-Ok.open.groups; rows = map text_row c.in_ok-entries-in-Ok.entries.items } in
+    let content : ContentRow = record { groups = names_in c.in-Ok.open.background; rows = map text_row c.in_ok-entries-in-Ok.entries.items } in
     let read = c.in-Ok.ensures.read content.rows c.in_ok-entries-in-Ok.ensures in
     let holds = rw (c.is_list-is_list.ensures, c.as_str.ensures.value, c.as_str-text.ensures.value) at read in
     let lines = c.in_ok-lines.lines in
     let known = known_of c.args.self.now.workspace in
     let At : Text → ContentRow → Type 0 = λ text content. IfOk c.diagnose_content.result (λ values. DiagnosesContentIn known c.args.encoding text content (map view values.items)) in
     let same : lines.text.now ≡ string_bytes c.args.document.now.text = rw (c.in_ok-lines.ensures, c.as_str-text.ensures.value) refl in
-    let listed = subst (λ (entries : List TextEntry). At lines.text.now (record { groups = names_in c.in-Ok.open.groups; rows = map text_row entries })) c.as_slice.ensures.value c.diagnose_content.ensures in
+    let listed = subst (λ (entries : List TextEntry). At lines.text.now (record { groups = names_in c.in-Ok.open.background; rows = map text_row entries })) c.as_slice.ensures.value c.diagnose_content.ensures in
     IfOk-weaker c.diagnose_content.result _ _ (λ values is. inl (content, holds, is)) (subst (λ (text : Text). At text content) same listed)
+
+pub diagnose_content-requires : goal.diagnose_content-requires
+diagnose_content-requires c = rw c.in_ok-lines.ensures c.in-Ok.ensures.parsed
 
 pub diagnose_refusal-requires : goal.diagnose_refusal-requires
 diagnose_refusal-requires c = rw c.in_ok-lines.ensures c.in-Err.ensures.refused

@@ -3,12 +3,12 @@ use Rattle.std.proofs.lemmas.List.{length-map, length-take-le, map-append, take_
 use Rattle.toml.specs.View.{view}
 use Rattle.filterset_configuration.specs.{Keys.Finds, Wrong.Judged, Wrong.value_row, Wrong.value_rows, Wrong.values_of}
 use Rattle.filterset_configuration.proofs.KeyLemmas.{found-next}
-use Rattle.filterset_configuration.proofs.checking.wrong_in.Goals as goal
+use Rattle.filterset_configuration.proofs.checking.find_wrong_values.Goals as goal
 
 pub loop-at-preserved : goal.loop-at-preserved
 loop-at-preserved c =
-    let text = c.args.text.now in
-    let file = view c.args.file.now in
+    let text = c.args.parsed.text.now in
+    let file = view c.args.parsed.file.now in
     let values = c.as_slice-values.result.now in
     let i = c.loop-at.at in
     let value = c.index-values-at.result in
@@ -26,6 +26,9 @@ loop-at-preserved c =
 pub returns : goal.returns
 returns c =
     let values = c.as_slice-values.result.now in
-    let all : value_rows (take c.loop-at.at values) ≡ values_of (view c.args.file.now) =
-    ap value_rows (take_all c.loop-at.at values c.loop-at-test.false ∙ c.as_slice-values.ensures.value) ∙ c.in_ok-found.ensures in
-    subst (λ rs. Finds (Judged c.args.text.now (view c.args.file.now)) 0 rs c.loop-at.wrong.items) all c.loop-at.invariant
+    let all : value_rows (take c.loop-at.at values) ≡ values_of (view c.args.parsed.file.now) =
+    ap value_rows (take_all c.loop-at.at values c.loop-at-test.false ∙ c.as_slice-values.ensures.value) ∙ c.in_ok-found.ensures in (
+      view c.args.parsed.file.now,
+      c.args.parsed.is_file,
+      subst (λ rs. Finds (Judged c.args.parsed.text.now (view c.args.parsed.file.now)) 0 rs c.loop-at.wrong.items) all c.loop-at.invariant,
+    )
