@@ -2,10 +2,9 @@
 """Prints what has to be read to judge the proof: the definitions, types and views that public clauses reach by names:
 scripts/trusted.py [CRATE..]
 
-A file has a line: how many of its lines are reached, without comments, and what they define. The last line has the sum.
-The clauses are those of all public calls in these crates and those below them, or in all that the programs and the
-library for C are made of; of a crate in `PROMISED`, those of these functions. What proves something where it is used
-(an invariant, the laws of an `==`) is not followed: the prover checks it. The layout must be that of `rt fmt`.
+A file has a line: how many of its lines are reached, without comments, and what they define; then comes the sum. The
+clauses are those of all public calls in these crates and those below them, or in all of the programs and the library for
+C; of a crate in `PROMISED`, of these alone. What proves something where it is used is not followed.
 """
 
 import re
@@ -17,7 +16,8 @@ from repository import crates, text_of, tracked
 PROGRAMS = ("filterset_cli", "filterset", "filterset_c")
 # What docs/PROVED.md promises of crates that nothing but a program is made of.
 PROMISED = {"filterset": {"run", "status", "serve_editor"}, "filterset_cli": {"Filtersets"},
-            "filterset_loading": {"task_of", "completion_script", "Shell"}}
+            "filterset_loading": {"task_of", "completion_script", "Shell"}, **{f"filterset_{part}": set() for part in
+            ("entries", "answers", "asking", "verdicts", "documents", "offers", "server")}}
 # Members that prove something where they are used.
 PROVING = {"laws", "xor_laws", "total", "matches_partial_cmp", "matches_eq", "respects_eq", "coded", "invariant"}
 
@@ -148,13 +148,13 @@ class Sources:
 
     def public(self, crate):
         """Yields what a crate promises: public functions, traits and members of impls, each with its path."""
-        root, promised = f"crates/{crate}/src/lib.rt", PROMISED.get(crate, set())
+        root = f"crates/{crate}/src/lib.rt"
         pub = [item for item in self.items[crate] if item.is_pub]
         modules = (item.name for item in pub if item.kind == "mod" and item.path == root)
         paths = {root, *(f"crates/{crate}/src/{name}.rt" for name in modules)}
         exported = re.findall(r"\w+", " ".join(re.findall(r"(?m)^pub use ([^;]*);", self.texts.get(root, ""))))
-        names = promised or {*exported, *(item.name for item in pub if item.path in paths)}
-        if lost := promised - {item.name for item in pub}:
+        names = PROMISED.get(crate, {*exported, *(item.name for item in pub if item.path in paths)})
+        if lost := PROMISED.get(crate, set()) - {item.name for item in pub}:
             raise LookupError(f"{crate} has no public {', '.join(lost)}")
         for item in self.items[crate]:
             head, members = "", [item] if item.is_pub and item.name in names else []
