@@ -1,11 +1,12 @@
 -- Where arguments end that are spelled as the grammar says.
 use Rattle.std.proofs.Common.{◌≡◌, ◌≢◌, ℕ, suc, ◌+◌, ◌<◌, ◌∙◌, ap, Bool, true, false, cond, eqb, List, [], ◌∷◌, ◌++◌, append_assoc, arith, drop, get_or, length, length-append, refl, subst, sym}
-use Rattle.std.specs.Prelude.{◌&&◌, ◌||◌, not}
-use Rattle.std.proofs.lemmas.{Bool.eqb-false, Bool.eqb-true, Bool.ne_eqb, Bool.Decides.nat_tests, List.drop_at}
+use Rattle.std.specs.Prelude.{◌||◌}
+use Rattle.std.proofs.lemmas.{Bool.Decides.nat_tests, List.drop_at}
+use Rattle.filterset_faults.specs.{Span.length_of, declared.span.SourceSpan.SourceSpan}
 use Rattle.filterset_grammar.specs.Grammar.{begins_plainly}
-use Rattle.filterset_grammar.specs.Text.{Blanks, Escape, HexDigits, SlashesFollow, Spelled, ends_in_backslash, escaped, hex_value, hexadecimal, is_plain, letter, newline, no_blank, nothing, plain, return_newline, space}
-use Rattle.filterset_language.proofs.{Formed.ends_front, Positions.one_blank, Positions.one_newline}
-use Rattle.filterset_language.specs.Parsing.{Front.blank_len, RawTexts.body_len}
+use Rattle.filterset_grammar.specs.Text.{Blanks, Escape, HexDigits, Spelled, escaped, hex_value, hexadecimal, is_plain, letter, newline, no_blank, nothing, plain, return_newline, space}
+use Rattle.filterset_language.proofs.{BodyReading.regex_again, EscapeReading.map_is}
+use Rattle.filterset_language.specs.Parsing.{Front.blank_len, Position.Position, RawTexts.body_len}
 use Rattle.filterset_rewriting.specs.Nesting.Arguments.{IsBody, raw_len}
 
 -- ---- raw texts
@@ -48,64 +49,24 @@ over_raw (escaped {more = own} {raw} {value} {c} e is more whole) t =
     let second : raw_len true (own ++ 41 ∷ t) ≡ length e + raw_len false rest = ap (raw_len true) parts ∙ over_escape is rest in
     omega (arith, first, second, over_raw more t, ap length whole, length-append e raw)
 
--- ---- blanks
-
--- blanks that are left before a text without any
-pub record Left (rest t : List ℕ) : Type 0 where
-  pub blanks : List ℕ
-  pub are : Blanks blanks
-  pub text : rest ≡ blanks ++ t
-
--- one blank less is left
-pub one_less : (rest t : List ℕ) (n : ℕ) → Left rest t → blank_len t ≡ 0 → n ≡ blank_len rest → 0 < n → Left (drop n rest) t
-one_less rest t n left stop is some = from left.blanks left.are left.text
-  where
-    from : (blanks : List ℕ) → Blanks blanks → rest ≡ blanks ++ t → Left (drop n rest) t
-    from blanks no_blank text = absurd (omega (arith, is, ap blank_len text, stop, some))
-    from blanks (space {t = more} are) text =
-        let count : n ≡ 1 = is ∙ ap blank_len text ∙ one_blank (more ++ t) in
-        record { blanks = more; are = are; text = ap (λ (k : ℕ). drop k rest) count ∙ ap (drop 1) text }
-    from blanks (newline {t = more} are) text =
-        let count : n ≡ 1 = is ∙ ap blank_len text ∙ one_newline (more ++ t) in
-        record { blanks = more; are = are; text = ap (λ (k : ℕ). drop k rest) count ∙ ap (drop 1) text }
-    from blanks (return_newline {t = more} are) text =
-        let count : n ≡ 2 = is ∙ ap blank_len text in
-        record { blanks = more; are = are; text = ap (λ (k : ℕ). drop k rest) count ∙ ap (drop 2) text }
-
-pub none_left : (rest t : List ℕ) → Left rest t → blank_len rest ≡ 0 → rest ≡ t
-none_left rest t left none = from left.blanks left.are left.text
-  where
-    from : (blanks : List ℕ) → Blanks blanks → rest ≡ blanks ++ t → rest ≡ t
-    from blanks no_blank text = text
-    from blanks (space {t = more} are) text = absurd (omega (arith, none, ap blank_len text, one_blank (more ++ t)))
-    from blanks (newline {t = more} are) text = absurd (omega (arith, none, ap blank_len text, one_newline (more ++ t)))
-    from blanks (return_newline {t = more} are) text = absurd (let two : blank_len (13 ∷ 10 ∷ (more ++ t)) ≡ 2 = refl in omega (arith, none, ap blank_len text, two))
-
 -- ---- raw texts that begin plainly
 
 no_blanks : (b : ℕ) (t : List ℕ) → b ∷ t ≡ [] → ⊥
 no_blanks b t is = cc
 
-after_blank : (b : ℕ) (raw u : List ℕ) → eqb b 32 ≡ false → eqb b 10 ≡ false → (b ≡ 13 → (u : List ℕ) → raw ≢ 10 ∷ u) → blank_len (b ∷ (raw ++ 41 ∷ u)) ≡ 0
-after_blank b [] u e32 e10 h = rw (e32, e10) (at13 (eqb b 13))
-  where
-    at13 : (v : Bool) → ◌≡◌ {A = ℕ} (cond (v && false) 2 0) 0
-    at13 true = refl
-    at13 false = refl
-after_blank b (c ∷ raw) u e32 e10 h = rw (e32, e10) (two (eqb b 13) (eqb c 10) refl refl)
-  where
-    two : (v w : Bool) → eqb b 13 ≡ v → eqb c 10 ≡ w → ◌≡◌ {A = ℕ} (cond (v && w) 2 0) 0
-    two true true p q = absurd (h (eqb-true b 13 p) raw (ap (λ (x : ℕ). x ∷ raw) (eqb-true c 10 q)))
-    two true false p q = refl
-    two false w p q = refl
+after_blank : (b : ℕ) (raw u : List ℕ) → b ≢ 32 → b ≢ 10 → (b ≡ 13 → (u : List ℕ) → raw ≢ 10 ∷ u) → blank_len (b ∷ (raw ++ 41 ∷ u)) ≡ 0
+after_blank b [] u no_space no_line h = grind (arith, nat_tests)
+after_blank b (c ∷ raw) u no_space no_line h =
+    let no_end : b ≡ 13 → c ≢ 10 = λ e is. h e raw (ap (λ (x : ℕ). x ∷ raw) is) in grind (arith, nat_tests)
 
 -- what begins plainly begins with no blank
 pub plain_stop : (raw u : List ℕ) → raw ≢ [] → begins_plainly raw → blank_len (raw ++ 41 ∷ u) ≡ 0
 plain_stop [] u some h = absurd (some refl)
 plain_stop (b ∷ raw) u some h =
-    let e32 : eqb b 32 ≡ false = ne_eqb b 32 (λ e. no_blanks b [] (h.0 (b ∷ []) raw (subst (λ (x : ℕ). Blanks (x ∷ [])) (sym e) (space no_blank)) refl)) in
-    let e10 : eqb b 10 ≡ false = ne_eqb b 10 (λ e. no_blanks b [] (h.0 (b ∷ []) raw (subst (λ (x : ℕ). Blanks (x ∷ [])) (sym e) (newline no_blank)) refl)) in
-    after_blank b raw u e32 e10 (λ e more is. no_blanks b (10 ∷ []) (h.0 (b ∷ 10 ∷ []) more (subst (λ (x : ℕ). Blanks (x ∷ 10 ∷ [])) (sym e) (return_newline no_blank)) (ap (λ (x : List ℕ). b ∷ x) is)))
+    after_blank b raw u
+    (λ e. no_blanks b [] (h.0 (b ∷ []) raw (subst (λ (x : ℕ). Blanks (x ∷ [])) (sym e) (space no_blank)) refl))
+    (λ e. no_blanks b [] (h.0 (b ∷ []) raw (subst (λ (x : ℕ). Blanks (x ∷ [])) (sym e) (newline no_blank)) refl))
+    (λ e more is. no_blanks b (10 ∷ []) (h.0 (b ∷ 10 ∷ []) more (subst (λ (x : ℕ). Blanks (x ∷ 10 ∷ [])) (sym e) (return_newline no_blank)) (ap (λ (x : List ℕ). b ∷ x) is)))
 
 -- and with no slash
 pub plain_no_slash : (raw t u : List ℕ) → raw ≢ [] → begins_plainly raw → raw ++ 41 ∷ t ≢ 47 ∷ u
@@ -119,18 +80,8 @@ cut text inside rest n is size = ap (drop n) is ∙ drop_at inside rest n (sym s
 
 -- ---- bodies of regular expressions
 
-slash_is : (b before : ℕ) → (eqb b 47 && not (eqb before 92)) ≡ true → (b ≡ 47) × (eqb before 92 ≡ false)
-slash_is b before e = grind (arith, nat_tests)
-
-over_slashes : (before : ℕ) (body u : List ℕ) → SlashesFollow before body → ends_in_backslash (before ∷ body) ≡ false → body_len before (body ++ 47 ∷ u) ≡ length body
-over_slashes before [] u slashes end = rw end refl
-over_slashes before (b ∷ body) u slashes end =
-    from (eqb b 47 && not (eqb before 92)) refl (over_slashes b body u slashes.1 end)
-  where
-    from : (v : Bool) → (eqb b 47 && not (eqb before 92)) ≡ v → body_len b (body ++ 47 ∷ u) ≡ length body → cond v 0 (suc (body_len b (body ++ 47 ∷ u))) ≡ suc (length body)
-    from true e on = let s = slash_is b before e in absurd (eqb-false before 92 s.1 (slashes.0 s.0))
-    from false e on = ap suc on
-
 -- a body goes on up to its slash
 pub over_body : (body u : List ℕ) → IsBody body → body_len 0 (body ++ 47 ∷ u) ≡ length body
-over_body body u is = over_slashes 0 body u is.1.slashes (ends_front body ∙ is.1.end)
+over_body body u is =
+    let (q, found, same) = map_is _ _ _ (regex_again 0 body is.0 u is.1) in
+    ap (λ (x : (List ℕ × SourceSpan) × Position). length_of x.0.1) same

@@ -1,7 +1,7 @@
 -- A tree without `^` means the same.
-use Rattle.std.proofs.Common.{◌≡◌, ◌↔◌, ◌∙◌, ◌⊎◌, ◌∷◌, ◌++◌, List, [], ⊎_elim, inl, inr, arith, refl, subst, sym}
+use Rattle.std.proofs.Common.{◌≡◌, ◌↔◌, ◌∙◌, ◌⊎◌, ◌++◌, List, ⊎_elim, inl, inr, arith, length, refl, subst, sym}
 use Rattle.std.specs.Prelude.{All, IsTrue}
-use Rattle.std.proofs.lemmas.List.Elements.{All-append, All-cons, All-head, All-nil, All-tail}
+use Rattle.std.proofs.lemmas.List.{drop_at, take_at, Elements.All-append, Elements.All-drop, Elements.All-same, Elements.All-take}
 use Rattle.filterset_expression.proofs.{AddedParens.same_formula, Connectives.connects_alike}
 use Rattle.filterset_expression.specs.declared.logic.Connective.TheVariants.{Conjunction, Disjunction}
 use Rattle.filterset_expression.specs.{Formula.Formula, Formula.TrueWhere, Meaning.tree_formula}
@@ -66,11 +66,9 @@ same_truth holds (Set l) = (λ h. h, λ h. h)
 
 -- ---- the leaves are the same
 
-pub both_all : {X : Type 0} (P : X → Type 0) (xs ys : List X) → All P (xs ++ ys) → All P xs × All P ys
-both_all P [] ys all = (All-nil P, all)
-both_all P (x ∷ xs) ys all =
-    let rest = both_all P xs ys (All-tail P x (xs ++ ys) all) in
-    (All-cons P x xs (All-head P x (xs ++ ys) all) rest.0, rest.1)
+both_all : {X : Type 0} (P : X → Type 0) (xs ys : List X) → All P (xs ++ ys) → All P xs × All P ys
+both_all P xs ys all =
+    (All-same P _ _ (sym (take_at xs ys _ refl)) (All-take P (length xs) _ all), All-same P _ _ (sym (drop_at xs ys _ refl)) (All-drop P (length xs) _ all))
 
 joined_leaves : {S : Type 0} (op : Joiner) (l r : Tree S) → HasWellFormedLeaves l → HasWellFormedLeaves r
     → HasWellFormedLeaves (joined_without op l r)

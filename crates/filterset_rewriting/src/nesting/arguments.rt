@@ -2,9 +2,11 @@
 ghost use Rattle.std.specs.Prelude.{◌≡◌, ◌≤◌, ◌∷◌, ◌++◌, IfSome, List, MatchOption, false, length, ℕ};
 ghost use Rattle.std.specs.Str.{bytes_eq};
 ghost use Rattle.filterset_grammar.specs.Text.{Blanks};
-ghost use Rattle.filterset_language.specs.Parsing.{Front.blank_len, Front.close_len, RawTexts.body_len};
+ghost use Rattle.filterset_language.specs.Parsing.Front.{blank_len};
 ghost use Rattle.filterset_rewriting.specs.Nesting.Arguments as spec;
 ghost use Rattle.filterset_rewriting.specs.Nesting.Arguments.{IsArgument, IsMatcher, IsRaw};
+
+use filterset_language::lengths::{blank_len, body_len, close_len};
 
 /// What a predicate takes as its argument.
 #[derive(Clone, Copy)]
@@ -126,31 +128,6 @@ fn skip_blanks(text: &[u8]) -> &[u8]
     }
 }
 
-/// Returns the length in bytes of the blank at the start of a text, or 0 if there is none.
-fn blank_len(text: &[u8]) -> usize
-    ensures value { result ≡ blank_len text.now }
-    ensures within { result ≤ length text.now }
-{
-    match text {
-        [b' ' | b'\n', ..] => 1,
-        [b'\r', b'\n', ..] => 2,
-        _ => 0,
-    }
-}
-
-/// Returns the number of bytes before the next `)`, or of the whole text.
-fn close_len(text: &[u8]) -> usize
-    ensures value { result ≡ close_len text.now }
-    ensures within { result ≤ length text.now }
-{
-    for (i, b) in text.iter().enumerate() {
-        if *b == b')' {
-            return i;
-        }
-    }
-    text.len()
-}
-
 /// Returns whether a raw text ends at this byte.
 fn ends_raw(is_escaped: bool, byte: u8) -> bool
     ensures { result ≡ spec.ends_raw is_escaped byte }
@@ -176,21 +153,6 @@ fn raw_len(text: &[u8]) -> usize
             return i;
         }
         is_escaped = escapes(is_escaped, *b);
-    }
-    text.len()
-}
-
-/// Returns the number of bytes before the first `/` that does not directly follow a backslash, or of the whole text.
-fn body_len(text: &[u8]) -> usize
-    ensures value { result ≡ body_len 0 text.now }
-    ensures within { result ≤ length text.now }
-{
-    let mut before = 0;
-    for (i, b) in text.iter().enumerate() {
-        if *b == b'/' && before != b'\\' {
-            return i;
-        }
-        before = *b;
     }
     text.len()
 }
