@@ -203,7 +203,6 @@ pub fn compile_texts(
     setting: &Setting<'_>,
     entries: &[TextEntry<'_>],
 ) -> Result<CompiledTexts, AllocError>
-    requires { IsKnown setting.now.groups.now }
     ensures { IfOk result (AreCompiled form setting.now (map text_row entries.now)) }
 {
     let compiler = Compiler {

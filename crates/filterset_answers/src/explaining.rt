@@ -3,11 +3,9 @@ ghost use Rattle.std.specs.Prelude.{◌≡◌, ◌∷◌, [], IfOk, List, false,
 ghost use Rattle.std.specs.List.{AllZip};
 ghost use Rattle.filterset_expression.specs.Expression.{has_leaf, is_default, is_group};
 ghost use Rattle.filterset_expression.specs.Meaning.{IsCompiled};
-ghost use Rattle.filterset_faults.specs.declared.kind.FiltersetKind.TheVariants as kinds;
 ghost use Rattle.filterset_faults.specs.declared.span.SourceSpan.{SourceSpan};
 ghost use Rattle.filterset_grammar.specs.Tree.{Tree};
 ghost use Rattle.filterset_language.specs.Views.{tree_of};
-ghost use Rattle.nextest_filtering.specs.Groups.{IsKnown};
 ghost use Rattle.filterset_entries.specs.Checked.{TextRow};
 ghost use Rattle.filterset_answers.specs.Compiled.{AreFiltersets, Basis, IsTreeOf};
 ghost use Rattle.filterset_answers.specs.Explained.{AnswersExplanation, Explains, ExplainsTree, ignored_line};
@@ -72,8 +70,7 @@ fn explain_compiled(
     candidate: Candidate<'_>,
     is_ignored: bool,
 ) -> Result<Answer, AllocError>
-    requires kind { setting.now.default.now.kind ≡ kinds.DefaultFilter }
-    requires filtersets { (row : TextRow) × AreFiltersets setting.now.graph.now setting.now.groups.now setting.now
+    requires { (row : TextRow) × AreFiltersets setting.now.graph.now setting.now.groups.now setting.now
         (row ∷ []) filtersets.now }
     ensures { IfOk result (λ answer. (row : TextRow) → AreFiltersets setting.now.graph.now setting.now.groups.now
         setting.now (row ∷ []) filtersets.now → (basis : Basis setting.now) × (trees : List (Tree SourceSpan))
@@ -107,8 +104,6 @@ pub fn explain_filterset(
     candidate: Candidate<'_>,
     is_ignored: bool,
 ) -> Result<Answer, AllocError>
-    requires default { setting.now.default.now.kind ≡ kinds.DefaultFilter }
-    requires groups { IsKnown setting.now.groups.now }
     ensures { IfOk result (λ answer. AnswersExplanation form setting.now filter.now candidate.entry is_ignored
         answer.ending (string_bytes answer.text)) }
 {

@@ -3,12 +3,10 @@ ghost use Rattle.std.specs.Prelude.{◌≡◌, ◌++◌, [], IfOk, List, OnOk, f
 ghost use Rattle.std.specs.List.{AllZip, count_by};
 ghost use Rattle.filterset_expression.specs.{Contexts.default_of, Expression.has_leaf, Expression.is_default};
 ghost use Rattle.filterset_expression.specs.Meaning.{IsCompiled};
-ghost use Rattle.filterset_faults.specs.declared.kind.FiltersetKind.TheVariants as kinds;
 ghost use Rattle.filterset_faults.specs.declared.span.SourceSpan.{SourceSpan};
 ghost use Rattle.filterset_grammar.specs.Tree.{Tree};
 ghost use Rattle.filterset_listing.specs.{ListText.is_open, declared.explaining.candidate.Candidate.TheVariants.Test};
 ghost use Rattle.filterset_listing.specs.declared.explaining.Explanation as explanations;
-ghost use Rattle.nextest_filtering.specs.Groups.{IsKnown};
 ghost use Rattle.filterset_answers.specs.Compiled.{AreFiltersets, Basis, IsAskedFor, IsTreeOf};
 ghost use Rattle.filterset_answers.specs.Overriding.{AnswersOverrides, CountsOverrides, IsListed, IsReasonFor, TellsOverrides, is_unknown, uncounted_text};
 ghost use Rattle.filterset_answers.specs.Picking.{compiled_of};
@@ -16,12 +14,12 @@ ghost use Rattle.filterset_entries.specs.declared.setting.Setting as settings;
 
 use crate::compiling::{CompiledTexts, QuestionFiltersets, compile_texts};
 use crate::grouping::asked_overrides;
-use crate::picks::{expressions_of, picks_of};
+use crate::picks::{AskedTests, expressions_of, picks_of};
 use filterset_display::Form;
 use filterset_entries::{Answer, Ending, Setting, unknown_ending};
 use filterset_listing::{
-    AskedBinary, BinaryPicks, Candidate, GroupOverride, explain, explain_text, lists_unknown,
-    push_some, uncounted_count, unknown_count,
+    BinaryPicks, Candidate, explain, explain_text, lists_unknown, push_some, uncounted_count,
+    unknown_count,
 };
 use filterset_overrides::{
     AskedOverride, ListedBinary, OverrideTable, any_unknown, any_unknown_test, count_overrides,
@@ -90,27 +88,26 @@ fn is_unknown(table: &OverrideTable<'_>, all: &[BinaryPicks<'_, '_>]) -> bool
 }
 
 /// Answers how overrides apply to the tests that at least one of these filtersets picks, or to all tests if there is no
-/// filterset. `groups` says in which groups tests are.
+/// filterset.
 pub fn answer_overrides(
     alloc: Global,
     filters: Vec<Filterset>,
-    context: &EvalContext<'_>,
-    groups: &[GroupOverride<'_>],
     asked: &[AskedOverride<'_>],
-    binaries: &[AskedBinary<'_>],
+    tests: AskedTests<'_, '_>,
 ) -> Result<Answer, AllocError>
     ensures { IfOk result (λ answer. (setting : settings.Setting) (basis : Basis setting)
-        (trees : List (Tree SourceSpan)) → basis.default ≡ default_of context.now → basis.overrides ≡ groups.now
+        (trees : List (Tree SourceSpan)) → basis.default ≡ default_of tests.entry.context.now
+        → basis.overrides ≡ tests.entry.overrides.now
         → has_leaf is_default basis.default ≡ false
         → AllZip (IsCompiled setting.graph.now) trees (map compiled_of filters.items)
         → AllZip (IsAskedFor setting) setting.overrides.now asked.now
-        → CountsOverrides setting binaries.now basis trees answer.ending (string_bytes answer.text)) }
+        → CountsOverrides setting tests.entry.binaries.now basis trees answer.ending (string_bytes answer.text)) }
 {
     let exprs = expressions_of(alloc, filters)?;
-    let all = picks_of(alloc, exprs, true, context, groups, binaries)?;
+    let all = picks_of(alloc, exprs, true, tests)?;
     let all = all.as_slice();
     let listed = listed_binaries(alloc, all)?;
-    let table = count_overrides(alloc, asked, context, listed.as_slice())?;
+    let table = count_overrides(alloc, asked, tests.context, listed.as_slice())?;
     let mut text = override_table_text(alloc, &table)?;
     push_uncounted(&mut text, all)?;
     Ok(Answer {
@@ -175,8 +172,7 @@ fn explain_compiled(
     filtersets: &QuestionFiltersets,
     query: &TestQuery<'_>,
 ) -> Result<Answer, AllocError>
-    requires kind { setting.now.default.now.kind ≡ kinds.DefaultFilter }
-    requires filtersets { AreFiltersets setting.now.graph.now setting.now.groups.now setting.now [] filtersets.now }
+    requires { AreFiltersets setting.now.graph.now setting.now.groups.now setting.now [] filtersets.now }
     ensures { IfOk result (λ answer. (basis : Basis setting.now) × (trees : List (Tree SourceSpan))
         × AllZip (IsTreeOf setting.now) [] trees
         × TellsOverrides query.now setting.now basis trees answer.ending (string_bytes answer.text)) }
@@ -203,8 +199,6 @@ pub fn explain_test_overrides(
     setting: &Setting<'_>,
     query: &TestQuery<'_>,
 ) -> Result<Answer, AllocError>
-    requires default { setting.now.default.now.kind ≡ kinds.DefaultFilter }
-    requires groups { IsKnown setting.now.groups.now }
     ensures { IfOk result (λ answer.
         AnswersOverrides form setting.now query.now answer.ending (string_bytes answer.text)) }
 {

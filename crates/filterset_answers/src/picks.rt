@@ -12,6 +12,16 @@ use filterset_listing::{AskedBinary, BinaryPicks, GroupOverride, list, selection
 use nextest_filtering::{CompiledExpr, EvalContext, Filterset};
 use std::alloc::{AllocError, Global};
 
+/// The tests that filtersets are asked about.
+#[derive(Clone, Copy)]
+pub struct AskedTests<'a, 't> {
+    /// The default filter.
+    pub context: &'a EvalContext<'a>,
+    /// The overrides that say in which groups tests are.
+    pub overrides: &'a [GroupOverride<'a>],
+    pub binaries: &'t [AskedBinary<'t>],
+}
+
 /// Takes the compiled expressions of filtersets.
 pub fn expressions_of(
     alloc: Global,
@@ -40,21 +50,25 @@ pub fn copy_expressions(
     Ok(exprs)
 }
 
-/// Returns the tests of each binary that a runner runs, given these filtersets and overrides.
-pub fn picks_of<'s, 'g>(
+/// Returns the tests of each binary that a runner runs, given these filtersets.
+pub fn picks_of<'g, 't>(
     alloc: Global,
     exprs: Vec<CompiledExpr>,
     ignores_default: bool,
-    context: &EvalContext<'_>,
-    overrides: &[GroupOverride<'g>],
-    binaries: &[AskedBinary<'s>],
-) -> Result<Vec<BinaryPicks<'s, 'g>>, AllocError>
+    tests: AskedTests<'g, 't>,
+) -> Result<Vec<BinaryPicks<'t, 'g>>, AllocError>
     ensures { IfOk result (λ all. (setting : settings.Setting) (basis : Basis setting) (trees : List (Tree SourceSpan))
-        → basis.default ≡ default_of context.now → basis.overrides ≡ overrides.now
+        → basis.default ≡ default_of tests.entry.context.now → basis.overrides ≡ tests.entry.overrides.now
         → has_leaf is_default basis.default ≡ false
         → AllZip (IsCompiled setting.graph.now) trees exprs.items
-        → ArePicks setting ignores_default binaries.now basis trees all.items) }
+        → ArePicks setting ignores_default tests.entry.binaries.now basis trees all.items) }
 {
     let selection = selection_of(alloc, exprs, ignores_default)?;
-    list(alloc, &selection, context, overrides, binaries)
+    list(
+        alloc,
+        &selection,
+        tests.context,
+        tests.overrides,
+        tests.binaries,
+    )
 }

@@ -1,14 +1,13 @@
 -- Lines of formatted texts, as long as none has faults.
-use Rattle.std.proofs.Common.{◌≡◌, ◌≢◌, ◌+◌, ℕ, Bool, arith, List, [], ◌∷◌, ◌++◌, ◌∙◌, subst, sym, refl, true, false}
+use Rattle.std.proofs.Common.{◌≡◌, ◌+◌, ℕ, Bool, arith, List, [], ◌∷◌, ◌++◌, refl, true, false}
 use Rattle.filterset_json.specs.Pieces.{Pieces}
 use Rattle.filterset_json.proofs.PieceLemmas.{Pieces-push}
 use Rattle.filterset_display.specs.Columns.{Text}
 use Rattle.filterset_answers.proofs.AnswersLemmas.{one_if, some_is}
-use Rattle.filterset_answers.specs.Answers.{FaultsOf, has_some}
-use Rattle.filterset_asking.specs.Formatted.{RewritesTexts, FormattedLine, FormattedPart}
+use Rattle.filterset_answers.specs.Answers.{has_some}
+use Rattle.filterset_asking.specs.Formatted.{FormattedLine, FormattedPart}
 use Rattle.filterset_asking.specs.declared.formatting.Rewriting.{Rewriting}
-use Rattle.filterset_entries.specs.Checked.{HasReadingFaults, TextRow, all_remarks}
-use Rattle.filterset_display.specs.declared.remark.Form.{Form}
+use Rattle.filterset_entries.specs.Checked.{TextRow, all_remarks}
 use Rattle.filterset_rewriting.specs.Reading.{IsUnreadFor}
 use Rattle.filterset_rewriting.specs.declared.reading.TextRefusal.{TextRefusal, TheVariants.Found, TheVariants.TooDeep}
 
@@ -18,14 +17,6 @@ pub FormattedLines-next : (rewriting : Rewriting) (rows : List TextRow) (row : T
     → (faulty + one_if has ≡ 0 → Pieces (FormattedLine rewriting) (rows ++ row ∷ []) (lines ++ line))
 FormattedLines-next rewriting rows row lines line faulty true are is none = absurd (omega (arith, none))
 FormattedLines-next rewriting rows row lines line faulty false are is none = Pieces-push (FormattedLine rewriting) rows row lines line (are (omega (arith, none))) is
-
--- what formatting answers
-pub formats : (form : Form) (rewriting : Rewriting) (rows : List TextRow) (faulty : ℕ) (lines pieces formatted faults text : Text)
-    → FaultsOf HasReadingFaults form 1 rows faulty pieces → (faulty ≡ 0 → Pieces (FormattedLine rewriting) rows lines)
-    → formatted ≡ lines → faults ≡ pieces → (faulty ≡ 0 → text ≡ formatted) → (faulty ≢ 0 → text ≡ faults)
-    → RewritesTexts rewriting form rows faulty text
-formats form rewriting rows faulty lines pieces formatted faults text are_pieces are_lines is_lines is_pieces fine other =
-    (pieces, are_pieces, λ none. subst (Pieces (FormattedLine rewriting) rows) (sym (fine none ∙ is_lines)) (are_lines none), λ some. other some ∙ is_pieces)
 
 pub unread_some : (text : Text) (faults : TextRefusal) → IsUnreadFor text faults → true ≡ has_some (all_remarks faults)
 unread_some text (Found faults) unread = some_is faults.items unread.some

@@ -1,8 +1,8 @@
 -- What `list`, `compare`, `explain` and `overrides` answer about the workspace that files describe.
-use Rattle.std.specs.Prelude.{◌≡◌, ◌⊎◌, List, [], Option, Some, None, MatchOption, MatchResult, IsSomeAnd, codes, flat_map, map, string_bytes, unwrap_or}
-use Rattle.std.specs.{List.AllZip, declared.io.Error.Error}
+use Rattle.std.specs.Prelude.{◌≡◌, ◌⊎◌, List, [], ◌∷◌, Option, Some, None, MatchOption, MatchResult, IsSomeAnd, codes, flat_map, map, option_map, string_bytes, unwrap_or}
+use Rattle.std.specs.{Borrow.Bor, List.AllZip, declared.io.Error.Error}
 use Rattle.serde_json.specs.{Data.Data, View.view}
-use Rattle.filterset_answers.specs.{Binaries.IsAsked, Explained.AnswersExplanation, Picking.AnswersQuestion}
+use Rattle.filterset_answers.specs.{Binaries.IsAsked, Explained.AnswersExplanation, Overriding.AnswersOverrides, Picking.AnswersQuestion}
 use Rattle.filterset_entries.specs.{Checked.TextRow, Checked.text_row, Endings.AnswersUnknown}
 use Rattle.filterset_entries.specs.Entries.{default_row, AreTextsOf, given_row}
 use Rattle.filterset_entries.specs.Profile.{IsEntryOf, IsProfileOf, chosen}
@@ -10,9 +10,10 @@ use Rattle.filterset_entries.specs.declared.entries.ConfiguredTexts.{ConfiguredT
 use Rattle.filterset_entries.specs.declared.setting.{OverrideEntry.OverrideEntry, Setting.Setting}
 use Rattle.filterset_entries.specs.declared.text.{Ending.Ending, TextEntry.TextEntry}
 use Rattle.filterset_display.specs.{declared.remark.Form.Form, declared.remark.Form.TheVariants.Json, Columns.Text}
-use Rattle.filterset_faults.specs.declared.kind.FiltersetKind.TheVariants.{DefaultFilter}
+use Rattle.filterset_expression.specs.declared.query.TestQuery.{TestQuery}
 use Rattle.filterset_graph.specs.declared.package.PackageMetadata.{PackageMetadata}
 use Rattle.filterset_listing.specs.declared.{binary.AskedBinary.AskedBinary, explaining.candidate.Candidate.Candidate}
+use Rattle.filterset_listing.specs.declared.explaining.candidate.Candidate.TheVariants.{Test}
 use Rattle.filterset_overrides.specs.declared.asked.AskedProfile.{AskedProfile}
 use Rattle.filterset_configuration.specs.{PlatformTrees.facts_of, Lineages.Lineage}
 use Rattle.filterset_configuration.specs.Ranking.{IsDefaultFilter, IsRanked, placed}
@@ -20,8 +21,7 @@ use Rattle.filterset_configuration.specs.declared.{profiles.Profile.Profile, ran
 use Rattle.filterset_configuration.specs.declared.defaults.DefaultFilter as defaults
 use Rattle.filterset_sources.specs.Platforms.{ArePlatforms}
 use Rattle.filterset_sources.specs.declared.{list.Suite.Suite, platforms.BuildPlatforms.BuildPlatforms}
-use Rattle.filterset_asking.specs.Explaining.{IsCandidate, IsMissing, is_uncounted}
-use Rattle.filterset_asking.specs.Overriding.{AnswersOverridesOf, LacksTests}
+use Rattle.filterset_asking.specs.Explaining.{IsCandidate, IsMissing, binary_called, is_uncounted}
 use Rattle.filterset_asking.specs.{Warnings.AnswersWarnings, declared.asking.AskedWorkspace.AskedWorkspace}
 use Rattle.filterset_asking.specs.declared.asking.Wanted.{Wanted, TheVariants.Answer, TheVariants.Warnings}
 use Rattle.nextest_filtering.specs.Groups.{AreGroups, IsGlobalOnly}
@@ -42,7 +42,7 @@ kept_of Json list = Some list
 kept_of form list = None
 
 -- the answer under a setting: to a question, or why the filterset picks the binary with the id, or its test with the name;
--- or how overrides apply to tests
+-- or how overrides apply to all tests that the filtersets pick, to those of the binary with the id, or to its test with the name
 abbrev pub AnswersOf : Form → Asked → Setting → List AskedBinary → Option Data → Ending → Text → Type 0
 AnswersOf form (Listing filters ignores_default) setting binaries kept =
     AnswersQuestion form setting (questions.List filters ignores_default) kept binaries
@@ -51,8 +51,14 @@ AnswersOf form (Compare first second has_names) setting binaries kept =
 AnswersOf form (Explanation filter id test) setting binaries kept = λ ending text.
     (candidate : Candidate) × IsCandidate binaries id.now test candidate
     × AnswersExplanation form setting filter.now candidate (is_uncounted binaries id.now test) ending text
-AnswersOf form (Overrides filters binary test) setting binaries kept =
-    AnswersOverridesOf form setting binaries filters binary test
+AnswersOf form (Overrides filters None test) setting binaries kept =
+    AnswersQuestion form setting (questions.Overrides filters) None binaries
+AnswersOf form (Overrides filters (Some id) None) setting binaries kept = λ ending text.
+    (binary : AskedBinary) × (binary_called id.now binaries ≡ Some binary)
+    × AnswersQuestion form setting (questions.Overrides filters) None (binary ∷ []) ending text
+AnswersOf form (Overrides filters (Some id) (Some test)) setting binaries kept = λ ending text.
+    (query : TestQuery) × IsCandidate binaries id.now (Some test) (Test query)
+    × AnswersOverrides form setting query ending text
 
 abbrev pub AnswersUnder : WorkspaceRequest → List Suite → Option Data → Setting → Ending → Text → Type 0
 AnswersUnder request suites kept setting ending text = (binaries : List AskedBinary) × AllZip IsAsked suites binaries
@@ -64,30 +70,19 @@ IsPlain packages given setting = (setting.graph.now ≡ packages) × IsGlobalOnl
     × (text_row setting.default.now ≡ unwrap_or given (default_row (codes "all()"))) × (setting.overrides.now ≡ [])
     × (setting.profiles.now ≡ [])
 
--- under a setting with this default filter and these groups, with the overrides, and with the profiles of the lineage
-abbrev pub AnswersWith : (Setting → Ending → Text → Type 0) → List PackageMetadata → KnownGroups → ConfiguredTexts
-    → List Profile → List RankedOverride → TextRow → Ending → Text → Type 0
-AnswersWith Answers packages groups texts lineage ranked row ending text = (setting : Setting)
-    × (setting.graph.now ≡ packages) × (setting.groups.now ≡ groups) × (text_row setting.default.now ≡ row)
-    × AllZip (IsEntryOf texts) ranked setting.overrides.now × AllZip IsProfileOf lineage setting.profiles.now
-    × Answers setting ending text
-
--- under the default filter that is given, or that follows from overrides
-abbrev pub AnswersBy : (Setting → Ending → Text → Type 0) → List PackageMetadata → Option TextRow → KnownGroups
-    → ConfiguredTexts → List Profile → List RankedOverride → defaults.DefaultFilter → Ending → Text → Type 0
-AnswersBy Answers packages given groups texts lineage ranked filter ending text = MatchResult (chosen texts given filter)
-    (λ row. AnswersWith Answers packages groups texts lineage ranked row ending text)
-    (λ path. AnswersUnknown path ending text)
-
--- under the profile of this name: by its lineage, the overrides of that in their order, and the default filter that follows
+-- under the profile of this name: with the profiles of its lineage, the overrides of that in their order, and the default
+-- filter that is given or that follows from these
 abbrev pub AnswersProfile : (Setting → Ending → Text → Type 0) → List PackageMetadata → Option TextRow → Text
     → List Profile → KnownGroups → ConfiguredTexts → KnownPlatforms → Ending → Text → Type 0
 AnswersProfile Answers packages given name profiles groups texts known ending text =
     (lineage : List Profile) × (ranked : List RankedOverride) × (filter : defaults.DefaultFilter)
     × Lineage profiles name lineage
     × AllZip (IsRanked (facts_of known.host) (facts_of known.target)) (flat_map placed lineage) ranked
-    × IsDefaultFilter ranked lineage filter
-    × AnswersBy Answers packages given groups texts lineage ranked filter ending text
+    × IsDefaultFilter ranked lineage filter × MatchResult (chosen texts given filter)
+    (λ row. (setting : Setting) × (setting.graph.now ≡ packages) × (setting.groups.now ≡ groups)
+    × (text_row setting.default.now ≡ row) × AllZip (IsEntryOf texts) ranked setting.overrides.now
+    × AllZip IsProfileOf lineage setting.profiles.now × Answers setting ending text)
+    (λ path. AnswersUnknown path ending text)
 
 -- under the profile that is asked for, of the configuration and for the platforms that the files describe
 abbrev pub AnswersConfigured : (Text → Option Text) → (Setting → Ending → Text → Type 0) → List PackageMetadata
@@ -112,13 +107,16 @@ AnswersAsked content request ending text = (workspace : Workspace) × IsWorkspac
 -- the binaries lack the one that is asked about, or its test
 abbrev pub LacksOf : Text → Asked → List AskedBinary → CommandFault → Type 0
 LacksOf list (Explanation filter id test) binaries fault = IsMissing list binaries id.now test fault
-LacksOf list (Overrides filters binary test) binaries fault = LacksTests list binaries binary test fault
+LacksOf list (Overrides filters (Some id) test) binaries fault = IsMissing list binaries id.now test fault
 LacksOf list asked binaries fault = ⊥
 
 -- so do the binaries of the suites
 abbrev pub LacksIn : Text → Asked → List Suite → CommandFault → Type 0
 LacksIn list asked suites fault =
     (binaries : List AskedBinary) × AllZip IsAsked suites binaries × LacksOf list asked binaries fault
+
+abbrev pub given_text : Option TextEntry → Option (Bor Text)
+given_text given = option_map (λ entry. entry.text) given
 
 -- the setting has these parts
 abbrev pub HasParts : List PackageMetadata → KnownGroups → TextEntry → List OverrideEntry → List AskedProfile → Setting → Type 0

@@ -4,7 +4,6 @@ pub mod Configured
 pub mod Contexts
 pub mod Explaining
 pub mod Formatted
-pub mod Overriding
 pub mod Spans
 pub mod Values
 pub mod Warned

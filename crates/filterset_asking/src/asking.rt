@@ -1,19 +1,18 @@
 //! The commands `list`, `compare`, `explain` and `overrides`: what filtersets pick of the workspace that files describe, and
 //! why, and how overrides apply to its tests.
-ghost use Rattle.std.specs.Prelude.{◌≡◌, IfErr, IfOk, IfSome, option_map, string_bytes};
+ghost use Rattle.std.specs.Prelude.{◌≡◌, IfErr, IfOk, option_map, string_bytes};
 ghost use Rattle.serde_json.specs.View.{view};
-ghost use Rattle.filterset_entries.specs.{Checked.text_row, Entries.given_row};
+ghost use Rattle.filterset_entries.specs.Entries.{given_row};
 ghost use Rattle.filterset_entries.specs.declared.setting.Setting as settings;
 ghost use Rattle.filterset_faults.specs.declared.kind.FiltersetKind.TheVariants as kinds;
 ghost use Rattle.nextest_filtering.specs.Groups.{IsKnown};
-ghost use Rattle.filterset_asking.specs.Asking.{AnswersAsked, AnswersIn, AnswersOf, HasParts, IsAskedFault, IsPlain, Lacks, LacksOf, kept_of};
-ghost use Rattle.filterset_loading.specs.Files.{OrMemory};
+ghost use Rattle.filterset_asking.specs.Asking.{AnswersAsked, AnswersIn, AnswersOf, HasParts, IsAskedFault, IsPlain, Lacks, LacksOf, given_text, kept_of};
+ghost use Rattle.filterset_loading.specs.Files.{OrMemory, name_of};
 
-use crate::explaining::{candidate_of, is_uncounted};
-use crate::overriding::ask_overrides;
+use crate::explaining::{candidate_of, find_binary, find_test, is_uncounted};
 use crate::profiled::ask_configured;
-use crate::setting::warn_setting;
-use filterset_answers::{ask_workspace, asked_binaries, explain_filterset};
+use crate::setting::{WarnedTexts, warn_setting};
+use filterset_answers::{ask_workspace, asked_binaries, explain_filterset, explain_test_overrides};
 use filterset_display::Form;
 use filterset_entries::{
     Answer, OverrideEntry, Question, Setting, TextEntry, WarningEnd, default_entry,
@@ -29,6 +28,7 @@ use filterset_sources::Suite;
 use nextest_filtering::KnownGroups;
 use serde_json::Value;
 use std::alloc::{AllocError, Global};
+use std::slice;
 
 /// Keeps nextest's list if the answer has its shape.
 pub fn kept_of(form: Form, list: Value) -> Option<Value>
@@ -58,28 +58,27 @@ pub struct AskedWorkspace<'a> {
     pub form: Form,
     /// The path of nextest's list.
     pub list: &'a str,
+    /// The default filter that is given, in place of that of the profile.
+    pub default_filter: Option<&'a str>,
     pub wanted: Wanted<'a>,
     pub graph: &'a PackageGraph,
     pub suites: &'a [Suite],
 }
 
-/// Answers what is asked of binaries under a setting. `kept` is nextest's list, if the answer has its shape. The fault names
-/// the list at the path `list`.
+/// Answers what is asked of the binaries of a workspace under a setting. `kept` is nextest's list, if the answer has its shape.
 fn answer_asked(
     alloc: Global,
-    form: Form,
-    list: &str,
-    setting: &Setting<'_>,
+    workspace: &AskedWorkspace<'_>,
     asked: Asked<'_>,
+    setting: &Setting<'_>,
     kept: Option<Value>,
     binaries: &[AskedBinary<'_>],
 ) -> Result<Answer, CommandFault>
-    requires kind { setting.now.default.now.kind ≡ kinds.DefaultFilter }
-    requires groups { IsKnown setting.now.groups.now }
-    ensures answered { IfOk result (λ answer. AnswersOf form asked.entry setting.now binaries.now (option_map view kept)
-        answer.ending (string_bytes answer.text)) }
-    ensures missing { IfErr result (OrMemory (LacksOf list.now asked.entry binaries.now)) }
+    ensures answered { IfOk result (λ answer. AnswersOf workspace.now.form asked.entry setting.now binaries.now
+        (option_map view kept) answer.ending (string_bytes answer.text)) }
+    ensures missing { IfErr result (OrMemory (LacksOf (name_of workspace.now.list.now) asked.entry binaries.now)) }
 {
+    let (form, list) = (workspace.form, name_of(workspace.list));
     match asked {
         Asked::List {
             filters,
@@ -116,7 +115,19 @@ fn answer_asked(
             filters,
             binary,
             test,
-        } => ask_overrides(alloc, form, list, setting, filters, binary, test, binaries),
+        } => {
+            let question = Question::Overrides { filters };
+            let Some(id) = binary else {
+                return Ok(ask_workspace(alloc, form, setting, &question, None, binaries)?);
+            };
+            let Some(test) = test else {
+                let binary = find_binary(alloc, list, id, binaries)?;
+                let own = slice::from_ref(binary);
+                return Ok(ask_workspace(alloc, form, setting, &question, None, own)?);
+            };
+            let query = find_test(alloc, list, id, test, binaries)?;
+            Ok(explain_test_overrides(alloc, form, setting, &query)?)
+        }
     }
 }
 
@@ -138,6 +149,7 @@ pub fn ask_under(
     ensures missing { IfErr result (OrMemory (Lacks asked.now)) }
 {
     let binaries = asked_binaries(alloc, asked.suites)?;
+    let binaries = binaries.as_slice();
     let setting = Setting {
         graph: asked.graph,
         groups,
@@ -146,34 +158,12 @@ pub fn ask_under(
         profiles,
     };
     match asked.wanted {
-        Wanted::Answer(own) => answer_asked(
-            alloc,
-            asked.form,
-            name_of(asked.list),
-            &setting,
-            own,
-            kept,
-            binaries.as_slice(),
-        ),
+        Wanted::Answer(own) => answer_asked(alloc, asked, own, &setting, kept, binaries),
         Wanted::Warnings { entries, end } => {
-            let binaries = binaries.as_slice();
             let form = asked.form;
-            Ok(warn_setting(alloc, form, end, &setting, entries, binaries)?)
+            let warned = WarnedTexts { form, end, entries };
+            Ok(warn_setting(alloc, warned, &setting, binaries)?)
         }
-    }
-}
-
-/// Makes the entry of the default filter that is given, if one is.
-fn given_default<'w>(
-    alloc: Global,
-    request: &WorkspaceRequest<'w>,
-) -> Result<Option<TextEntry<'w>>, AllocError>
-    ensures row { IfOk result (λ given. option_map text_row given ≡ given_row request.now.default_filter) }
-    ensures kind { IfOk result (λ given. IfSome given (λ entry. entry.kind ≡ kinds.DefaultFilter)) }
-{
-    match request.default_filter {
-        Some(text) => Ok(Some(default_entry(alloc, text)?)),
-        None => Ok(None),
     }
 }
 
@@ -181,22 +171,28 @@ fn given_default<'w>(
 pub fn ask_plainly(
     alloc: Global,
     asked: &AskedWorkspace<'_>,
-    given: Option<TextEntry<'_>>,
     kept: Option<Value>,
 ) -> Result<Answer, CommandFault>
-    requires { IfSome given (λ entry. entry.kind ≡ kinds.DefaultFilter) }
     ensures answered { IfOk result (λ answer. (setting : settings.Setting)
-        × IsPlain asked.now.graph.now (option_map text_row given.entry) setting
+        × IsPlain asked.now.graph.now (given_row asked.now.default_filter) setting
         × AnswersIn asked.now (option_map view kept) setting answer.ending (string_bytes answer.text)) }
     ensures missing { IfErr result (OrMemory (Lacks asked.now)) }
 {
     let groups = KnownGroups::global_only(alloc);
-    match given {
-        Some(default) => ask_under(alloc, asked, &groups, &default, &[], &[], kept),
-        None => {
-            let default = default_entry(alloc, "all()")?;
-            ask_under(alloc, asked, &groups, &default, &[], &[], kept)
-        }
+    let default = default_entry(alloc, asked.default_filter.unwrap_or("all()"))?;
+    ask_under(alloc, asked, &groups, &default, &[], &[], kept)
+}
+
+/// Makes the entry of the default filter that is given, if one is.
+fn given_default<'w>(
+    alloc: Global,
+    request: &WorkspaceRequest<'w>,
+) -> Result<Option<TextEntry<'w>>, AllocError>
+    ensures { IfOk result (λ given. given_row (given_text given) ≡ given_row request.now.default_filter) }
+{
+    match request.default_filter {
+        Some(text) => Ok(Some(default_entry(alloc, text)?)),
+        None => Ok(None),
     }
 }
 
@@ -215,15 +211,16 @@ pub fn ask<F: FileSource>(
     let asked = AskedWorkspace {
         form: request.form,
         list: request.paths.list,
+        default_filter: request.default_filter,
         wanted: Wanted::Answer(request.asked),
         graph: &graph,
         suites: list.suites.as_slice(),
     };
-    let given = given_default(alloc, request)?;
     match request.profile {
-        None => ask_plainly(alloc, &asked, given, kept_of(request.form, value)),
+        None => ask_plainly(alloc, &asked, kept_of(request.form, value)),
         Some(profile) => {
             let built = platforms_of(alloc, request.paths.list, &value)?;
+            let given = given_default(alloc, request)?;
             let kept = kept_of(request.form, value);
             ask_configured(alloc, files, &asked, &profile, built, given, kept)
         }

@@ -2,7 +2,8 @@
 ghost use Rattle.std.specs.Prelude.{◌≡◌, ◌++◌, IfErr, IfOk, IsSomeAnd, OnOk, map, string_bytes};
 ghost use Rattle.filterset_entries.specs.{Checked.text_row, Entries.rows_in};
 ghost use Rattle.nextest_filtering.specs.Groups.{IsKnown};
-ghost use Rattle.filterset_sources.specs.Configurations.{RefusesConfiguration};
+ghost use Rattle.toml.specs.View.{view};
+ghost use Rattle.filterset_sources.specs.Configurations.{IsFile, RefusesConfiguration};
 ghost use Rattle.filterset_asking.specs.Checking.{AnswersCheck, ChecksAll, ChecksKnown, HasAsked, IsCheckFault, IsUnchecked, KnownConfiguration, LacksAsked, file_name};
 ghost use Rattle.filterset_asking.specs.Warned.{request_after};
 ghost use Rattle.filterset_loading.specs.Files.{BySource, IsFileFault, OrMemory};
@@ -14,7 +15,7 @@ use filterset_answers::check;
 use filterset_configuration::{WrongValue, find_wrong_values};
 use filterset_display::{Form, Source};
 use filterset_entries::{
-    Answer, Names, TextEntry, WarningEnd, configured_entries, configured_texts,
+    Answer, ConfiguredTexts, Names, TextEntry, WarningEnd, configured_entries, configured_texts,
 };
 use filterset_graph::PackageGraph;
 use filterset_loading::{
@@ -23,6 +24,7 @@ use filterset_loading::{
 };
 use filterset_sources::ParsedText;
 use std::alloc::{AllocError, Global};
+use toml::Value;
 
 /// Reads the configuration. Without a file it has no filtersets and no groups.
 fn known_configuration<F: FileSource>(
@@ -95,40 +97,45 @@ fn check_all<'c, F: FileSource>(
     paths: CheckPaths<'c>,
     graph: &'c PackageGraph,
     names: &'c Names<'_>,
-    configured: CheckedFile<'c>,
+    texts: ConfiguredTexts<'c>,
+    file: &'c Value,
     given: Vec<TextEntry<'c>>,
 ) -> Result<Answer, CommandFault>
-    requires { IsKnown names.now.known_groups }
+    requires groups { IsKnown names.now.known_groups }
+    requires file { IsFile texts.file.now.text.now (view file.now) }
     ensures answered { IfOk result (λ answer. ChecksAll (F.content files.now) form graph.now names.now paths.entry
-        configured.entry.texts (map text_row given.entry.items) answer.ending (string_bytes answer.text)) }
+        texts.entry (map text_row given.entry.items) answer.ending (string_bytes answer.text)) }
     ensures refused { IfErr result (OrMemory (IsUnchecked (F.content files.now) (F.fails files.now) graph.now
-        paths.entry configured.entry.texts.file.now.text.now)) }
+        paths.entry texts.entry.file.now.text.now)) }
 {
+    let parsed = ParsedText {
+        text: texts.file.text,
+        file,
+    };
     let mut given = given;
-    let mut entries = configured_entries(alloc, configured.texts)?;
+    let mut entries = configured_entries(alloc, texts)?;
     entries.append(&mut given)?;
-    let own = warn_configuration(alloc, form, configured)?;
-    let texts = CheckedTexts {
+    let own = warn_configuration(alloc, form, CheckedFile { texts, file })?;
+    let checked_texts = CheckedTexts {
         form,
         graph,
         groups: &names.known_groups,
         path: paths.configuration,
-        configured,
+        configured: texts,
+        file,
         entries: entries.as_slice(),
         end: WarningEnd {
             denies: paths.denies,
             before: own.count,
         },
     };
-    let (text, file) = (configured.texts.file.text, configured.file);
-    let parsed = ParsedText { text, file };
     let values = find_wrong_values(alloc, parsed)?;
     let values = values.as_slice();
-    let checked = check(alloc, names, form, texts.entries)?;
-    let answer = add_values(alloc, form, configured.texts.file, values, checked)?;
+    let checked = check(alloc, names, form, checked_texts.entries)?;
+    let answer = add_values(alloc, form, texts.file, values, checked)?;
     let request = request_after(values, paths.warnings);
     find_asked(alloc, &paths, parsed, values)?;
-    let warnings = warn_checked(alloc, files, request, &texts)?;
+    let warnings = warn_checked(alloc, files, request, &checked_texts)?;
     Ok(join_answers(alloc, answer, own.text.as_str(), warnings)?)
 }
 
@@ -162,8 +169,7 @@ pub fn check_texts<F: FileSource>(
     let source = Source::new(alloc, file_name(paths.configuration), text.as_str())?;
     let texts = configured_texts(&source, configuration.filtersets.as_slice(), &places);
     let file = &configuration.file;
-    let configured = CheckedFile { texts, file };
     check_all(
-        alloc, files, form, *paths, &graph, &names, configured, given,
+        alloc, files, form, *paths, &graph, &names, texts, file, given,
     )
 }

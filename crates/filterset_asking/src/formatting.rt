@@ -1,9 +1,8 @@
 //! Filtersets as they print, or simplified.
-ghost use Rattle.std.specs.Prelude.{◌≡◌, ◌≢◌, ◌++◌, IfOk, ℕ, map, string_bytes};
+ghost use Rattle.std.specs.Prelude.{◌≡◌, ◌++◌, IfOk, ℕ, map, string_bytes};
 ghost use Rattle.filterset_display.specs.Columns.{Text};
-ghost use Rattle.filterset_json.specs.Pieces.{Pieces};
-ghost use Rattle.filterset_answers.specs.Answers.{FaultsOf, TextFaults};
-ghost use Rattle.filterset_asking.specs.Formatted.{FormatsTexts, FormattedLine, FormattedPart, IsRewritten, RewritesTexts, SimplifiesTexts};
+ghost use Rattle.filterset_answers.specs.Answers.{TextFaults};
+ghost use Rattle.filterset_asking.specs.Formatted.{FormatsTexts, FormattedPart, IsRewritten, RewritesTexts, SimplifiesTexts};
 ghost use Rattle.filterset_entries.specs.{Checked.HasReadingFaults, Checked.text_row, Endings.ending_of};
 ghost use Rattle.filterset_language.specs.Views.{tree_of};
 
@@ -34,10 +33,16 @@ fn rewrite(alloc: Global, rewriting: Rewriting, tree: ParsedExpr) -> Result<Pars
     }
 }
 
+/// What is written of texts: the lines of those that parse, and the faults of the others.
+#[derive(Drop)]
+struct RewrittenTexts {
+    lines: String,
+    faults: String,
+}
+
 /// Writes a text as it prints, or its faults, and returns whether it has any.
 fn push_text(
-    formatted: &mut String,
-    output: &mut String,
+    written: &mut RewrittenTexts,
     alloc: Global,
     form: Form,
     rewriting: Rewriting,
@@ -45,54 +50,24 @@ fn push_text(
     entry: &TextEntry<'_>,
 ) -> Result<bool, AllocError>
     ensures { IfOk result (λ has. (line : Text) × (piece : Text)
-        × (string_bytes formatted.new ≡ string_bytes formatted.old ++ line)
-        × (string_bytes output.new ≡ string_bytes output.old ++ piece)
+        × (string_bytes written.new.lines ≡ string_bytes written.old.lines ++ line)
+        × (string_bytes written.new.faults ≡ string_bytes written.old.faults ++ piece)
         × FormattedPart rewriting has (text_row entry.now) line
         × TextFaults HasReadingFaults form number (text_row entry.now) has piece) }
 {
     match read_text(alloc, entry.text)? {
         Ok(tree) => {
             let rewritten = rewrite(alloc, rewriting, tree)?;
-            writeln!(formatted, "{rewritten}")?;
+            writeln!(written.lines, "{rewritten}")?;
             Ok(false)
         }
-        Err(faults) => {
-            let remarks = fault_remarks(alloc, &faults)?;
-            push_faults(output, alloc, form, entry, number, remarks.as_slice())?;
+        Err(refusal) => {
+            let remarks = fault_remarks(alloc, &refusal)?;
+            let remarks = remarks.as_slice();
+            push_faults(&mut written.faults, alloc, form, entry, number, remarks)?;
             Ok(true)
         }
     }
-}
-
-/// Writes texts as they print, and the faults of those that have any, and counts these.
-fn push_texts(
-    formatted: &mut String,
-    output: &mut String,
-    alloc: Global,
-    form: Form,
-    rewriting: Rewriting,
-    texts: &[TextEntry<'_>],
-) -> Result<usize, AllocError>
-    ensures { IfOk result (λ faulty. (lines : Text) × (pieces : Text)
-        × (string_bytes formatted.new ≡ string_bytes formatted.old ++ lines)
-        × (string_bytes output.new ≡ string_bytes output.old ++ pieces)
-        × (faulty ≡ 0 → Pieces (FormattedLine rewriting) (map text_row texts.now) lines)
-        × FaultsOf HasReadingFaults form 1 (map text_row texts.now) faulty pieces) }
-{
-    let mut faulty = 0;
-    for (i, entry) in texts.iter().enumerate() {
-        let has = push_text(formatted, output, alloc, form, rewriting, i + 1, entry)?;
-        faulty += usize::from(has);
-    }
-    Ok(faulty)
-}
-
-/// Returns the texts as they print if none has faults, and otherwise the faults.
-fn choose(formatted: String, faults: String, faulty: usize) -> String
-    ensures formatted { faulty ≡ 0 → result ≡ formatted }
-    ensures faults { faulty ≢ 0 → result ≡ faults }
-{
-    if faulty == 0 { formatted } else { faults }
 }
 
 /// Writes texts as they print, or simplified, a line each, or their faults.
@@ -105,12 +80,26 @@ fn rewrite_texts(
     ensures { IfOk result (λ answer. (faulty : ℕ) × RewritesTexts rewriting form (map text_row texts.now) faulty
         (string_bytes answer.text) × (answer.ending ≡ ending_of faulty)) }
 {
-    let mut formatted = String::new(alloc);
-    let mut faults = String::new(alloc);
-    let faulty = push_texts(&mut formatted, &mut faults, alloc, form, rewriting, texts)?;
+    let mut written = RewrittenTexts {
+        lines: String::new(alloc),
+        faults: String::new(alloc),
+    };
+    let mut faulty = 0;
+    for (i, entry) in texts.iter().enumerate() {
+        let has = push_text(&mut written, alloc, form, rewriting, i + 1, entry)?;
+        faulty += usize::from(has);
+    }
+    let RewrittenTexts { lines, faults } = written;
+    let ending = ending_of(faulty);
+    if faulty == 0 {
+        return Ok(Answer {
+            text: lines,
+            ending,
+        });
+    }
     Ok(Answer {
-        text: choose(formatted, faults, faulty),
-        ending: ending_of(faulty),
+        text: faults,
+        ending,
     })
 }
 

@@ -9,7 +9,6 @@ mod configured;
 mod explaining;
 mod formatting;
 mod hints;
-mod overriding;
 mod profiled;
 mod setting;
 mod span;

@@ -3,8 +3,6 @@ ghost use Rattle.std.specs.Prelude.{◌≡◌, ◌==◌, ◌+◌, ◌++◌, [], 
 ghost use Rattle.std.specs.List.{count_by};
 ghost use Rattle.filterset_entries.specs.Checked.{text_row};
 ghost use Rattle.filterset_answers.specs.Compiled.{AreFiltersets};
-ghost use Rattle.filterset_faults.specs.declared.kind.FiltersetKind.TheVariants as kinds;
-ghost use Rattle.nextest_filtering.specs.Groups.{IsKnown};
 ghost use Rattle.filterset_asking.specs.Warnings.{AnswersWarnings, is_skipped, skipped_line, summary, warned_ending};
 
 use crate::texts::{WarningContext, warn_texts};
@@ -102,37 +100,42 @@ pub fn count_warnings(alloc: Global, form: Form, end: WarningEnd) -> Result<Answ
     end_warnings(text, form, end.denies, 0, end.before)
 }
 
+/// The texts of which there are warnings, how these are written, and how they end the command.
+#[derive(Clone, Copy)]
+pub struct WarnedTexts<'t> {
+    pub form: Form,
+    pub end: WarningEnd,
+    pub entries: &'t [TextEntry<'t>],
+}
+
 /// Writes the warnings of texts by the filtersets of a setting.
 fn warn_by<'s>(
     alloc: Global,
-    form: Form,
-    end: WarningEnd,
+    texts: WarnedTexts<'_>,
     setting: &'s Setting<'_>,
     filtersets: &'s QuestionFiltersets,
-    texts: &[TextEntry<'_>],
     binaries: &'s [AskedBinary<'_>],
 ) -> Result<Answer, AllocError>
-    requires kind { setting.now.default.now.kind ≡ kinds.DefaultFilter }
-    requires groups { IsKnown setting.now.groups.now }
-    requires filtersets { AreFiltersets setting.now.graph.now setting.now.groups.now setting.now [] filtersets.now }
-    ensures { IfOk result (λ answer. AnswersWarnings form end setting.now (map text_row texts.now) binaries.now
-        answer.ending (string_bytes answer.text)) }
+    requires { AreFiltersets setting.now.graph.now setting.now.groups.now setting.now [] filtersets.now }
+    ensures { IfOk result (λ answer. AnswersWarnings texts.entry.form texts.entry.end setting.now
+        (map text_row texts.entry.entries.now) binaries.now answer.ending (string_bytes answer.text)) }
 {
     let compiled = &filtersets.setting;
     let eval_context = EvalContext::new(&compiled.default.compiled);
     let overrides = group_overrides(alloc, setting.overrides, compiled.overrides.as_slice())?;
     let subjects = subjects_of(alloc, overrides.as_slice(), &eval_context, binaries)?;
     let cx = WarningContext {
-        form,
+        form: texts.form,
         parse_context: ParseContext::new(alloc, setting.graph)?,
         known_groups: setting.groups,
         eval_context,
         subjects,
     };
     let mut text = String::new(alloc);
-    let count = warn_texts(&mut text, alloc, &cx, texts)?;
-    let total = end.total(count)?;
-    let answer = end_warnings(text, form, end.denies, count_skipped(binaries), total)?;
+    let count = warn_texts(&mut text, alloc, &cx, texts.entries)?;
+    let total = texts.end.total(count)?;
+    let skipped = count_skipped(binaries);
+    let answer = end_warnings(text, texts.form, texts.end.denies, skipped, total)?;
     Ok(answer)
 }
 
@@ -142,20 +145,16 @@ fn warn_by<'s>(
 /// Returns an error only if out of memory.
 pub fn warn_setting(
     alloc: Global,
-    form: Form,
-    end: WarningEnd,
+    texts: WarnedTexts<'_>,
     setting: &Setting<'_>,
-    texts: &[TextEntry<'_>],
     binaries: &[AskedBinary<'_>],
 ) -> Result<Answer, AllocError>
-    requires kind { setting.now.default.now.kind ≡ kinds.DefaultFilter }
-    requires groups { IsKnown setting.now.groups.now }
-    ensures { IfOk result (λ answer. AnswersWarnings form end setting.now (map text_row texts.now) binaries.now
-        answer.ending (string_bytes answer.text)) }
+    ensures { IfOk result (λ answer. AnswersWarnings texts.entry.form texts.entry.end setting.now
+        (map text_row texts.entry.entries.now) binaries.now answer.ending (string_bytes answer.text)) }
 {
-    match compile_texts(alloc, form, setting, &[])? {
+    match compile_texts(alloc, texts.form, setting, &[])? {
         CompiledTexts::Filtersets(filtersets) => {
-            warn_by(alloc, form, end, setting, &filtersets, texts, binaries)
+            warn_by(alloc, texts, setting, &filtersets, binaries)
         }
         CompiledTexts::Faults(_faults) => Ok(Answer {
             text: String::new(alloc),

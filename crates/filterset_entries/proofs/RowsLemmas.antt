@@ -1,13 +1,13 @@
 -- The rows of texts that are numbered one after the other, and what else is made piece by piece.
 use Rattle.std.proofs.Common.{◌≡◌, ℕ, ◌+◌, ◌<◌, arith, List, [], ◌∷◌, ◌++◌, length, map, take, get_or, ◌∙◌, sym, ap, refl, Option, None, Some, subst, false, String, Global, string_bytes}
 use Rattle.std.proofs.lemmas.List.{map-append, length-map, length-take-le, take_more, Elements.filter_map-append}
-use Rattle.std.specs.{List.enumerate_from, List.filter_map, Prelude.option_map, Prelude.option_to_list, Borrow.Bor}
+use Rattle.std.specs.{List.enumerate_from, List.filter_map, Prelude.option_map, Prelude.option_to_list, Prelude.unwrap_or, Borrow.Bor}
 use Rattle.filterset_display.specs.{Columns.Text, Json.number_data, Json.text_data, Json.RemarkData, Remarks.RemarkRow}
 use Rattle.filterset_display.specs.declared.source.FileSpan.{FileSpan}
 use Rattle.filterset_faults.specs.declared.kind.FiltersetKind.{FiltersetKind}
 use Rattle.filterset_faults.specs.declared.parse_errors.FiltersetParseErrors.{FiltersetParseErrors}
 use Rattle.filterset_entries.specs.{Checked.TextRow, Checked.text_row, declared.text.TextEntry.TextEntry}
-use Rattle.filterset_entries.specs.Entries.{numbered_row, numbered_rows}
+use Rattle.filterset_entries.specs.Entries.{default_row, given_row, numbered_row, numbered_rows}
 use Rattle.serde_json.specs.{Data.Data, Written.has_float}
 use Rattle.filterset_graph.specs.declared.package.PackageMetadata.{PackageMetadata}
 use Rattle.nextest_filtering.specs.Compiling.{IsRefusalOf, IsRefusedWith}
@@ -113,6 +113,11 @@ pub remark_has_no_float : (origin text : Text) (part : Option FileSpan) (number 
 remark_has_no_float origin text part number remark d (here, there, at, in_file, is) =
     ap has_float is
     ∙ simp (number_data-has_float, text_data-has_float) refl
+
+-- the row of the default filter that is given, or else of the other text
+pub row_given : (given : Option (Bor Text)) (all : Bor Text) → default_row (unwrap_or given all).now ≡ unwrap_or (given_row given) (default_row all.now)
+row_given (Some text) all = refl
+row_given None all = refl
 
 -- the faults of a refusal are ones that refuse the text
 pub refusal_faults : (input : String Global) (text : Text) (kind : FiltersetKind) (packages : List PackageMetadata) (groups : KnownGroups) (refusal : ParseRefusal) (refused : FiltersetParseErrors)

@@ -1,7 +1,7 @@
 //! The texts of a profile, which are its default filter and the filters of its overrides, and the keys that it sets.
-ghost use Rattle.std.specs.Prelude.{◌≡◌, ◌++◌, IfOk, IfSome, codes, map, option_map, position, string_bytes};
+ghost use Rattle.std.specs.Prelude.{◌≡◌, ◌++◌, IfOk, codes, map, option_map, position, string_bytes};
 ghost use Rattle.std.specs.{List.AllZip, Str.bytes_eq};
-ghost use Rattle.filterset_entries.specs.{Checked.text_row, Profile.IsChosen, Profile.IsEntryOf, Profile.IsProfileOf, Profile.row_at};
+ghost use Rattle.filterset_entries.specs.{Checked.text_row, Entries.given_row, Profile.IsChosen, Profile.IsEntryOf, Profile.IsProfileOf, Profile.row_at};
 
 use crate::entries::{ConfiguredTexts, default_entry, place_at};
 use crate::setting::OverrideEntry;
@@ -125,14 +125,13 @@ pub enum ChosenFilter<'t> {
 pub fn choose<'t>(
     alloc: Global,
     texts: ConfiguredTexts<'t>,
-    given: Option<TextEntry<'t>>,
+    given: Option<&'t str>,
     filter: DefaultFilter<'t>,
 ) -> Result<ChosenFilter<'t>, AllocError>
-    requires { IfSome given (λ entry. entry.kind ≡ FiltersetKind.DefaultFilter) }
-    ensures { IfOk result (IsChosen texts.entry (option_map text_row given.entry) filter.entry) }
+    ensures { IfOk result (IsChosen texts.entry (given_row given.entry) filter.entry) }
 {
-    if let Some(entry) = given {
-        return Ok(ChosenFilter::Entry(entry));
+    if let Some(text) = given {
+        return Ok(ChosenFilter::Entry(default_entry(alloc, text)?));
     }
     match filter {
         DefaultFilter::Set { path, text } => {

@@ -1,4 +1,9 @@
 //! What questions about a workspace are asked under.
+ghost use Rattle.std.specs.Prelude.{◌≡◌};
+ghost use Rattle.filterset_faults.specs.declared.kind.FiltersetKind.TheVariants as kinds;
+ghost use Rattle.nextest_filtering.specs.Groups.{IsKnown};
+ghost use Rattle.filterset_entries.specs.Names.{is_known_prop};
+
 use crate::text::TextEntry;
 use filterset_overrides::AskedProfile;
 use nextest_filtering::{KnownGroups, PackageGraph};
@@ -33,4 +38,6 @@ pub struct Setting<'t> {
     pub overrides: &'t [OverrideEntry<'t>],
     /// The profile, and those that it falls back on, in order.
     pub profiles: &'t [AskedProfile<'t>],
+    ghost default_kind: { default.now.kind ≡ kinds.DefaultFilter },
+    ghost known: { IsKnown groups.now } by { is_known_prop groups.now },
 }

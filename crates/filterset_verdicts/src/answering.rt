@@ -5,14 +5,12 @@ ghost use Rattle.filterset_answers.specs.{Compiled.Basis, Picking.compiled_of, P
 ghost use Rattle.filterset_entries.specs.declared.setting.Setting as settings;
 ghost use Rattle.filterset_expression.specs.{Contexts.default_of, Meaning.IsCompiled};
 ghost use Rattle.filterset_expression.specs.declared.query.TestQuery.{TestQuery};
-ghost use Rattle.filterset_faults.specs.declared.kind.FiltersetKind.TheVariants as kinds;
-ghost use Rattle.nextest_filtering.specs.Groups.{IsKnown};
 ghost use Rattle.filterset_verdicts.specs.{ListedTests.AreTestsOf, VerdictForm.IsExplainedIn, VerdictText.ending_of};
 ghost use Rattle.filterset_verdicts.specs.Verdicts.{AnswersQuestion, Decides, IsShown};
 
 use crate::listed::{group_names, listed_tests};
 use crate::reasons::push_reasons_of;
-use crate::text::{answer_text, ending_of};
+use crate::text::{Decided, answer_text, ending_of};
 use filterset_answers::{CompiledTexts, compile_texts};
 use filterset_deciding::{Question, Verdict, Witness, decide, find_listed};
 use filterset_display::Form;
@@ -69,34 +67,38 @@ fn find_shown<'x>(
     )
 }
 
-/// Makes the answer of a verdict: in lines for people with the reasons of each filterset below its test. `is_listed` says
-/// whether the test, if there is one, is one of the list.
+/// Makes the answer of a verdict: in lines for people with the reasons of each filterset below its test.
 fn answer_verdict(
     alloc: Global,
     form: Form,
-    question: Question,
-    is_listed: bool,
     graph: &PackageGraph,
     context: &EvalContext<'_>,
     filtersets: &[Filterset],
-    verdict: &Verdict<'_>,
+    decided: &Decided<'_>,
 ) -> Result<Answer, AllocError>
     ensures text { IfOk result (λ answer.
         AllZip (IsCompiled graph.now) (map parsed_of filtersets.now) (map compiled_of filtersets.now)
-        → IsExplainedIn form question is_listed graph.now (default_of context.now) (map parsed_of filtersets.now) verdict.now
-        (string_bytes answer.text)) }
-    ensures ending { IfOk result (λ answer. answer.ending ≡ ending_of verdict.now) }
+        → IsExplainedIn form decided.now.question decided.now.is_listed graph.now (default_of context.now)
+        (map parsed_of filtersets.now) decided.now.verdict (string_bytes answer.text)) }
+    ensures ending { IfOk result (λ answer. answer.ending ≡ ending_of decided.now.verdict) }
 {
-    let mut text = answer_text(alloc, form, question, is_listed, graph, verdict)?;
+    let mut text = answer_text(alloc, form, graph, decided)?;
     match form {
         Form::Json => {}
         Form::Drawn(_) | Form::Github => {
-            push_reasons_of(&mut text, alloc, graph, context, filtersets, verdict)?;
+            push_reasons_of(
+                &mut text,
+                alloc,
+                graph,
+                context,
+                filtersets,
+                &decided.verdict,
+            )?;
         }
     }
     Ok(Answer {
         text,
-        ending: ending_of(verdict),
+        ending: ending_of(&decided.verdict),
     })
 }
 
@@ -125,15 +127,21 @@ fn decide_filtersets<'x>(
     match find_shown(alloc, setting.groups, asked, context, within, exprs)? {
         Some(witness) => {
             let verdict = Verdict::Fails(witness);
-            answer_verdict(
-                alloc, form, question, true, graph, context, others, &verdict,
-            )
+            let decided = Decided {
+                question,
+                is_listed: true,
+                verdict,
+            };
+            answer_verdict(alloc, form, graph, context, others, &decided)
         }
         None => {
             let verdict = decide(alloc, within, exprs, context, question, asked.budget)?;
-            answer_verdict(
-                alloc, form, question, false, graph, context, others, &verdict,
-            )
+            let decided = Decided {
+                question,
+                is_listed: false,
+                verdict,
+            };
+            answer_verdict(alloc, form, graph, context, others, &decided)
         }
     }
 }
@@ -149,9 +157,7 @@ pub fn answer_texts(
     asked: &TextQuestion<'_>,
 ) -> Result<Answer, AllocError>
     requires some { 0 < length asked.now.entries.now }
-    requires kind { setting.now.default.now.kind ≡ kinds.DefaultFilter }
     requires plain { setting.now.overrides.now ≡ [] }
-    requires groups { IsKnown setting.now.groups.now }
     ensures { IfOk result (λ answer. AnswersQuestion form setting.now asked.now
         answer.ending (string_bytes answer.text)) }
 {

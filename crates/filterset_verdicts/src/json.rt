@@ -3,7 +3,7 @@ ghost use Rattle.std.specs.Prelude.{◌≡◌, ◌++◌, IfOk, codes, false, map
 ghost use Rattle.serde_json.specs.{Data.Data, Data.null, View.view, Written.compact_text};
 ghost use Rattle.filterset_verdicts.specs.VerdictJson.{IsVerdictData, demand_item, number_item, picked_numbers, question_word, test_data};
 
-use crate::text::{demand_text, package_text, platform_word};
+use crate::text::{Decided, demand_text, package_text, platform_word};
 use filterset_deciding::{Demand, PossibleTest, Question, TestField, Verdict};
 use filterset_graph::PackageGraph;
 use serde_json::{Value, json};
@@ -68,12 +68,11 @@ fn demand_values(
 /// Makes the value of a verdict.
 fn verdict_value(
     alloc: Global,
-    question: Question,
-    is_listed: bool,
     graph: &PackageGraph,
-    verdict: &Verdict<'_>,
+    decided: &Decided<'_>,
 ) -> Result<Value, AllocError>
-    ensures { IfOk result (λ value. IsVerdictData question is_listed graph.now verdict.now (view value)) }
+    ensures { IfOk result (λ value. IsVerdictData decided.now.question decided.now.is_listed graph.now decided.now.verdict
+        (view value)) }
 {
     let (mut doubts, mut listed, mut picks, mut test) = (
         Value::Null,
@@ -81,11 +80,11 @@ fn verdict_value(
         Value::Null,
         Value::Null,
     );
-    let (answer, is_spent) = match verdict {
+    let (answer, is_spent) = match &decided.verdict {
         Verdict::Always => ("yes", false),
         Verdict::Fails(witness) => {
             let name = package_text(graph, &witness.test.package_id);
-            listed = Value::Bool(is_listed);
+            listed = Value::Bool(decided.is_listed);
             picks = Value::Array(pick_values(alloc, witness.picks.as_slice())?);
             test = test_value(alloc, name, &witness.test)?;
             ("no", false)
@@ -96,7 +95,7 @@ fn verdict_value(
         }
         Verdict::Stopped => ("unknown", true),
     };
-    let word = question_word(question);
+    let word = question_word(decided.question);
     json!(in alloc; {
         "answer": answer, "budget_spent": is_spent, "hangs_on": doubts, "listed": listed,
         "picked_by": picks, "question": word, "test": test
@@ -106,15 +105,14 @@ fn verdict_value(
 /// Writes a verdict as a JSON object in a line. The only error is out of memory.
 pub(crate) fn verdict_line(
     alloc: Global,
-    question: Question,
-    is_listed: bool,
     graph: &PackageGraph,
-    verdict: &Verdict<'_>,
+    decided: &Decided<'_>,
 ) -> Result<String, AllocError>
-    ensures { IfOk result (λ text. (d : Data) × IsVerdictData question is_listed graph.now verdict.now d
+    ensures { IfOk result (λ text. (d : Data)
+        × IsVerdictData decided.now.question decided.now.is_listed graph.now decided.now.verdict d
         × (string_bytes text ≡ compact_text d ++ codes "\n")) }
 {
-    let value = verdict_value(alloc, question, is_listed, graph, verdict)?;
+    let value = verdict_value(alloc, graph, decided)?;
     let mut text = value.to_string(alloc)?;
     text.push_str("\n")?;
     Ok(text)

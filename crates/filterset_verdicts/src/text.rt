@@ -134,6 +134,15 @@ fn push_picks(output: &mut String, picks: &[bool]) -> Result<(), AllocError>
     Ok(())
 }
 
+/// A verdict about a question.
+#[derive(Drop)]
+pub(crate) struct Decided<'d> {
+    pub question: Question,
+    /// Whether its test, if it has one, is one of the list.
+    pub is_listed: bool,
+    pub verdict: Verdict<'d>,
+}
+
 /// Writes a test for which the answer to a question is no.
 fn witness_text(
     alloc: Global,
@@ -194,16 +203,18 @@ fn doubt_text(alloc: Global, question: Question, doubt: &Doubt<'_>) -> Result<St
 /// Writes a verdict in lines for people. The only error is out of memory.
 fn verdict_text(
     alloc: Global,
-    question: Question,
-    is_listed: bool,
     graph: &PackageGraph,
-    verdict: &Verdict<'_>,
+    decided: &Decided<'_>,
 ) -> Result<String, AllocError>
-    ensures { IfOk result (λ text. IsVerdictText question is_listed graph.now verdict.now (string_bytes text)) }
+    ensures { IfOk result (λ text. IsVerdictText decided.now.question decided.now.is_listed graph.now decided.now.verdict
+        (string_bytes text)) }
 {
-    match verdict {
+    let question = decided.question;
+    match &decided.verdict {
         Verdict::Always => String::from_str(alloc, held_text(question)),
-        Verdict::Fails(witness) => witness_text(alloc, question, is_listed, graph, witness),
+        Verdict::Fails(witness) => {
+            witness_text(alloc, question, decided.is_listed, graph, witness)
+        }
         Verdict::Unknown(doubt) => doubt_text(alloc, question, doubt),
         Verdict::Stopped => {
             let mut text = String::from_str(alloc, open_text(question))?;
@@ -213,21 +224,19 @@ fn verdict_text(
     }
 }
 
-/// Writes a verdict in a form. `is_listed` says whether its test, if it has one, is one of the list. The only error is out of
-/// memory.
+/// Writes a verdict in a form. The only error is out of memory.
 pub(crate) fn answer_text(
     alloc: Global,
     form: Form,
-    question: Question,
-    is_listed: bool,
     graph: &PackageGraph,
-    verdict: &Verdict<'_>,
+    decided: &Decided<'_>,
 ) -> Result<String, AllocError>
-    ensures { IfOk result (λ text. IsVerdictIn form question is_listed graph.now verdict.now (string_bytes text)) }
+    ensures { IfOk result (λ text. IsVerdictIn form decided.now.question decided.now.is_listed graph.now decided.now.verdict
+        (string_bytes text)) }
 {
     match form {
-        Form::Json => verdict_line(alloc, question, is_listed, graph, verdict),
-        Form::Drawn(_) | Form::Github => verdict_text(alloc, question, is_listed, graph, verdict),
+        Form::Json => verdict_line(alloc, graph, decided),
+        Form::Drawn(_) | Form::Github => verdict_text(alloc, graph, decided),
     }
 }
 

@@ -10,7 +10,7 @@ pub returns-in-List : goal.returns-in-List
 returns-in-List c =
     let setting = c.args.setting.now in
     let made = c.args.filtersets in
-    let are = c.requires.filtersets in
+    let are = c.requires in
     let rows = question_rows c.args.question.now in
     let grouped = rw c.as_slice.ensures.value at c.in_ok-made.ensures in
     let basis = basis_of setting rows made c.in_ok-made.made.items are (grouped setting are.overrides) in
@@ -20,7 +20,7 @@ returns-in-List c =
       trees,
       trees_of setting rows made.filters.items are.filters,
       subst (λ question. Tells setting question (option_map view c.args.kept) c.args.binaries.now basis trees answer.ending (string_bytes answer.text)) (sym c.in-List.is)
-          (lists setting basis trees (sym c.new-context.ensures) (sym c.as_slice-overrides.ensures.value) (are.default.no_default c.requires.kind) (compiled_trees setting.graph.now setting.groups.now rows made.filters.items are.filters)),
+          (lists setting basis trees (sym c.new-context.ensures) (sym c.as_slice-2.ensures.value) (are.default.no_default setting.default_kind) (compiled_trees setting.graph.now setting.groups.now rows made.filters.items are.filters)),
     ))
     c.answer_list.ensures
 
@@ -28,7 +28,7 @@ pub returns-in-Compare : goal.returns-in-Compare
 returns-in-Compare c =
     let setting = c.args.setting.now in
     let made = c.args.filtersets in
-    let are = c.requires.filtersets in
+    let are = c.requires in
     let rows = question_rows c.args.question.now in
     let grouped = rw c.as_slice.ensures.value at c.in_ok-made.ensures in
     let basis = basis_of setting rows made c.in_ok-made.made.items are (grouped setting are.overrides) in
@@ -38,7 +38,7 @@ returns-in-Compare c =
       trees,
       trees_of setting rows made.filters.items are.filters,
       subst (λ question. Tells setting question (option_map view c.args.kept) c.args.binaries.now basis trees answer.ending (string_bytes answer.text)) (sym c.in-Compare.is)
-          (let own = rw c.as_slice-in-Compare.ensures.value at compares in own setting basis (sym c.new-context.ensures) (sym c.as_slice-overrides.ensures.value) (compiled_trees setting.graph.now setting.groups.now rows made.filters.items are.filters)),
+          (let own = rw c.as_slice-in-Compare.ensures.value at compares in own setting basis (sym c.new-context.ensures) (sym c.as_slice-2.ensures.value) (compiled_trees setting.graph.now setting.groups.now rows made.filters.items are.filters)),
     ))
     c.answer_compare.ensures
 
@@ -46,7 +46,7 @@ pub returns-in_ok-asked-in-Overrides : goal.returns-in_ok-asked-in-Overrides
 returns-in_ok-asked-in-Overrides c =
     let setting = c.args.setting.now in
     let made = c.args.filtersets in
-    let are = c.requires.filtersets in
+    let are = c.requires in
     let rows = question_rows c.args.question.now in
     let grouped = rw c.as_slice.ensures.value at c.in_ok-made.ensures in
     let basis = basis_of setting rows made c.in_ok-made.made.items are (grouped setting are.overrides) in
@@ -57,7 +57,7 @@ returns-in_ok-asked-in-Overrides c =
       trees,
       trees_of setting rows made.filters.items are.filters,
       subst (λ question. Tells setting question (option_map view c.args.kept) c.args.binaries.now basis trees answer.ending (string_bytes answer.text)) (sym c.in-Overrides.is)
-          (counts setting basis trees (sym c.new-context.ensures) (sym c.as_slice-overrides.ensures.value) (are.default.no_default c.requires.kind) (compiled_trees setting.graph.now setting.groups.now rows made.filters.items are.filters)
-          (subst (AllZip (IsAskedFor setting) setting.overrides.now) (sym c.as_slice-asked.ensures.value) (asked setting are.overrides))),
+          (counts setting basis trees (sym c.new-context.ensures) (sym c.as_slice-2.ensures.value) (are.default.no_default setting.default_kind) (compiled_trees setting.graph.now setting.groups.now rows made.filters.items are.filters)
+          (subst (AllZip (IsAskedFor setting) setting.overrides.now) (sym c.as_slice-in-Overrides-2.ensures.value) (asked setting are.overrides))),
     ))
     c.answer_overrides.ensures

@@ -10,8 +10,8 @@ use Rattle.filterset_answers.proofs.picks.picks_of.Goals as goal
 
 pub returns : goal.returns
 returns c =
-    let default = default_of c.args.context.now in
-    let overrides = c.args.overrides.now in
+    let default = default_of c.args.tests.context.now in
+    let overrides = c.args.tests.overrides.now in
     let ignores = c.args.ignores_default in
     let selection = c.in_ok-selection.selection in
     IfOk-weaker c.list.result _ _ (λ all are setting basis trees is of_overrides none of_trees.
@@ -20,5 +20,5 @@ returns c =
     let means = c.in_ok-selection.ensures.meaning packages default tree trees (subst (IsCompiled packages tree) is basis.compiled) (subst (λ (e : CompiledExpr). has_leaf is_default e ≡ false) is none) of_trees in
     let picks = all_picks_alike default overrides (ExprPicks default selection) (RunPicks packages ignores default tree trees) (ExprCanPick default selection) (RunCanPick packages ignores default tree trees)
     means.0 means.1 _ _ are in
-    let Picks : CompiledExpr → List GroupOverride → Type 0 = λ e os. AllZip (IsBinaryPicks (Says e os (RunPicks packages ignores e tree trees)) (RunCanPick packages ignores e tree trees)) c.args.binaries.now all.items in
+    let Picks : CompiledExpr → List GroupOverride → Type 0 = λ e os. AllZip (IsBinaryPicks (Says e os (RunPicks packages ignores e tree trees)) (RunCanPick packages ignores e tree trees)) c.args.tests.binaries.now all.items in
     subst (Picks basis.default) (sym of_overrides) (subst (λ (e : CompiledExpr). Picks e overrides) (sym is) picks)) c.list.ensures.picks

@@ -9,7 +9,7 @@ use Rattle.filterset_asking.proofs.asking.ask.Goals as goal
 
 pub returns-in-None-clause-answered : goal.returns-in-None-clause-answered
 returns-in-None-clause-answered g c =
-    let told = rw (c.as_slice.ensures.value, c.kept_of.ensures, c.in_ok-given.ensures.row) at c.ask_plainly.ensures.answered in
+    let told = rw (c.as_slice.ensures.value, c.kept_of.ensures) at c.ask_plainly.ensures.answered in
     IfOk-weaker c.ask_plainly.result _ _ (λ answer answers. (c.in_ok-graph.field-0, c.in_ok-graph.ensures.read, rw c.in-None.is answers)) told
 
 pub returns-in-None-clause-refused : goal.returns-in-None-clause-refused
@@ -35,7 +35,7 @@ returns-in_err-built-in-Some-clause-refused g c =
 
 pub returns-clause-answered : goal.returns-clause-answered
 returns-clause-answered g c =
-    let told = rw (c.as_slice.ensures.value, c.kept_of-kept.ensures, c.in_ok-given.ensures.row) at c.ask_configured.ensures.answered in
+    let told = rw (c.as_slice.ensures.value, c.kept_of-kept.ensures, c.in_ok-given-in-Some.ensures) at c.ask_configured.ensures.answered in
     IfOk-weaker c.ask_configured.result _ _ (λ answer answers. (
       c.in_ok-graph.field-0,
       c.in_ok-graph.ensures.read,

@@ -1,37 +1,24 @@
-use Rattle.std.proofs.Common.{◌∙◌, Option, ap, codes, option_map, subst, sym, unwrap_or}
+use Rattle.std.proofs.Common.{◌∙◌, ap, subst, sym}
 use Rattle.std.proofs.lemmas.Result.{IfOk-weaker}
-use Rattle.filterset_entries.specs.Checked.{TextRow, text_row}
-use Rattle.filterset_entries.specs.{Entries.default_row, declared.text.TextEntry.TextEntry}
+use Rattle.std.specs.Borrow.{Bor}
+use Rattle.filterset_display.specs.Columns.{Text}
+use Rattle.filterset_entries.specs.{Checked.text_row, Entries.default_row}
+use Rattle.filterset_entries.proofs.RowsLemmas.{row_given}
 use Rattle.nextest_filtering.specs.Groups.{IsGlobalOnly}
 use Rattle.filterset_asking.proofs.asking.ask_plainly.Goals as goal
 
-abbrev row_or_all : Option TextEntry → TextRow
-row_or_all given = unwrap_or (option_map text_row given) (default_row (codes "all()"))
-
-pub returns-in-Some-clause-answered : goal.returns-in-Some-clause-answered
-returns-in-Some-clause-answered c =
+pub returns-clause-answered : goal.returns-clause-answered
+returns-clause-answered c =
+    let row = c.in_ok-default.ensures ∙ ap (λ (t : Bor Text). default_row t.now) c.unwrap_or.ensures
+    ∙ row_given c.args.asked.now.default_filter _ in
     IfOk-weaker c.ask_under.result _ _ (λ answer told. (
       told.0,
       (
         told.1.0,
         subst IsGlobalOnly (sym told.1.1) c.global_only-groups.ensures.global,
-        ap text_row told.1.2 ∙ sym (ap row_or_all c.in-Some.is),
+        ap text_row told.1.2 ∙ row,
         told.1.3,
         told.1.4,
       ),
       told.2,
     )) c.ask_under.ensures.answered
-
-pub returns-clause-answered : goal.returns-clause-answered
-returns-clause-answered c =
-    IfOk-weaker c.ask_under-in-None.result _ _ (λ answer told. (
-      told.0,
-      (
-        told.1.0,
-        subst IsGlobalOnly (sym told.1.1) c.global_only-groups.ensures.global,
-        ap text_row told.1.2 ∙ (c.in_ok-default-in-None.ensures ∙ sym (ap row_or_all c.in-None.is)),
-        told.1.3,
-        told.1.4,
-      ),
-      told.2,
-    )) c.ask_under-in-None.ensures.answered

@@ -16,16 +16,16 @@ returns-in_ok-writeln-in-Ok c =
     let d = tree_of c.in_ok-rewritten-in-Ok.rewritten in
     let line = printed d ++ codes "\n" in
     let reads : IsRead c.args.entry.now.text.now e = search rules in
-    let written : string_bytes c.writeln.new.self ≡ string_bytes c.args.formatted.now ++ line = search rules in
+    let written : string_bytes c.writeln.new.self ≡ string_bytes c.args.written.now.lines ++ line = search rules in
     let is : IsRewritten c.args.rewriting e d = c.in_ok-rewritten-in-Ok.ensures in
     (line, [], written, sym (append-nil _), (e, d, reads, is, refl), ([], inl (e, reads, refl), refl, no_pieces))
 
 pub returns-in_ok-push_faults-in-Err : goal.returns-in_ok-push_faults-in-Err
 returns-in_ok-push_faults-in-Err c =
     let text = c.args.entry.now.text.now in
-    let faults = c.in-Err.faults in
+    let faults = c.in-Err.refusal in
     let wrote = c.in_ok-push_faults-in-Err.ensures in
     let unread : IsUnreadFor text faults = search rules in
-    let is : map remark_row c.as_slice.result.now ≡ all_remarks faults = search rules in
+    let is : map remark_row c.as_slice-remarks.result.now ≡ all_remarks faults = search rules in
     let pieces = subst (λ remarks. FaultPieces c.args.form (text_row c.args.entry.now) c.args.number remarks wrote.0) is wrote.2 in
     ([], wrote.0, sym (append-nil _), wrote.1, refl, (all_remarks faults, inr (faults, unread, refl), unread_some text faults unread, pieces))

@@ -12,7 +12,7 @@ returns-clause-answered g c =
     let parts = c.configured_texts-texts.ensures in
     let origin_of : Source → Text = λ s. s.origin.now in
     let text_of : Source → Text = λ s. s.text.now in
-    let told = rw c.as_slice-2.ensures.value at c.ask_profile.ensures.answered in
+    let told = rw c.as_slice-profiles.ensures.value at c.ask_profile.ensures.answered in
     IfOk-weaker c.ask_profile.result _ _ (λ answer answers. (
       c.in_ok-text.field-0,
       c.in_ok-groups.groups,
@@ -37,7 +37,7 @@ returns-clause-refused g c =
     let profile = c.args.profile.now in
     let asked = c.args.asked.now in
     let file = c.in_ok-text.field-0 in
-    let told = rw c.as_slice-2.ensures.value at c.ask_profile.ensures.missing in
+    let told = rw c.as_slice-profiles.ensures.value at c.ask_profile.ensures.missing in
     IfErr-weaker c.ask_profile.result _ _ (OrMemory-weaker (λ (fault : CommandFault). Lacks asked fault ⊎ LacksProfile profile file.profiles.items fault)
     (λ (fault : CommandFault). Lacks asked fault ⊎ IsProfileFault content fails profile fault)
     (λ fault either. elim either as (λ _. Lacks asked fault ⊎ IsProfileFault content fails profile fault) [

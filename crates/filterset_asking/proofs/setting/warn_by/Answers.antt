@@ -13,7 +13,7 @@ returns c =
     let setting = c.args.setting.now in
     let made = c.args.filtersets.now in
     let binaries = c.args.binaries.now in
-    let are = c.requires.filtersets in
+    let are = c.requires in
     let overrides = c.in_ok-overrides.overrides.items in
     let subjects = c.in_ok-subjects.subjects.items in
     let count = c.in_ok-count.count in
@@ -22,13 +22,13 @@ returns c =
     let Listed : CompiledExpr → List GroupOverride → Type 0 = λ default given. AreSubjects default given binaries subjects in
     let listed = subst (λ given. Listed basis.default given) c.as_slice-2.ensures.value (subst (λ default. Listed default c.as_slice-2.result.now) c.new-eval_context.ensures c.in_ok-subjects.ensures) in
     let Written : List PackageMetadata → CompiledExpr → Text → Type 0 =
-    λ packages default text. WarningsOf c.args.form setting.groups.now (record { packages = packages; default = default }) subjects 1 (map text_row c.args.texts.now) count text in
+    λ packages default text. WarningsOf c.args.texts.form setting.groups.now (record { packages = packages; default = default }) subjects 1 (map text_row c.args.texts.entries.now) count text in
     let wrote = c.in_ok-count.ensures in
     let packages = c.in_ok-new.ensures in
     let warned = wrote.1 ∙ ap (λ t. t ++ wrote.0) c.new-text.ensures.bytes in
-    let all = c.args.end.before + count in
+    let all = c.args.texts.end.before + count in
     let ends = rw c.in_ok-total.ensures at c.in_ok-answer.ensures.text in
-    let sums = ends ∙ ap (λ t. t ++ summary c.args.form c.count_skipped.result all) warned ∙ ap (λ k. wrote.0 ++ summary c.args.form k all) c.count_skipped.ensures in
+    let sums = ends ∙ ap (λ t. t ++ summary c.args.texts.form c.count_skipped-skipped.result all) warned ∙ ap (λ k. wrote.0 ++ summary c.args.texts.form k all) c.count_skipped-skipped.ensures in
     let over_packages = subst (λ p. Written p (default_of c.new-eval_context.result) wrote.0) packages wrote.2 in
     let written = subst (λ d. Written setting.graph.now d wrote.0) c.new-eval_context.ensures over_packages in
     inl (basis, subjects, count, wrote.0, listed, written, sums, rw c.in_ok-total.ensures at c.in_ok-answer.ensures.ending)

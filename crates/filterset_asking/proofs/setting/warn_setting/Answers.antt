@@ -8,5 +8,5 @@ returns-in-Faults c =
     let setting = c.args.setting.now in
     let pieces = string_bytes c.in-Faults._faults in
     let refused = rw c.in-Faults.is at c.in_ok-filtersets.ensures in
-    let written = subst (λ rows. FaultsOf (HasRefusal setting.graph.now setting.groups.now) c.args.form 1 rows refused.0 pieces) (append-nil (setting_rows setting)) refused.2 in
+    let written = subst (λ rows. FaultsOf (HasRefusal setting.graph.now setting.groups.now) c.args.texts.form 1 rows refused.0 pieces) (append-nil (setting_rows setting)) refused.2 in
     inr (refused.0, pieces, refused.1, written, c.new.ensures.bytes, refl)

@@ -7,7 +7,7 @@ use Rattle.filterset_asking.proofs.warning.warn_configured.Goals as goal
 
 pub returns-clause-answered : goal.returns-clause-answered
 returns-clause-answered g c =
-    let told = rw c.as_slice.ensures.value at c.ask_profile.ensures.answered in
+    let told = rw c.as_slice-profiles.ensures.value at c.ask_profile.ensures.answered in
     IfOk-weaker c.ask_profile.result _ _ (λ answer answers. (
       c.in_ok-built.built,
       c.in_ok-profiles.profiles.items,
@@ -26,8 +26,8 @@ returns-clause-refused g c =
     let profile = c.args.profile.now in
     let profiles = c.in_ok-profiles.profiles.items in
     let Unused : CommandFault → Type 0 =
-    IsProfileUnused content fails c.args.texts.now.configured.texts.file.now.text.now asked.list.now (view c.args.value.now) profile in
-    let told = rw c.as_slice.ensures.value at c.ask_profile.ensures.missing in
+    IsProfileUnused content fails c.args.texts.now.configured.file.now.text.now asked.list.now (view c.args.value.now) profile in
+    let told = rw c.as_slice-profiles.ensures.value at c.ask_profile.ensures.missing in
     IfErr-weaker c.ask_profile.result _ _ (OrMemory-weaker (λ (fault : CommandFault). Lacks asked fault ⊎ LacksProfile profile profiles fault)
     (λ (fault : CommandFault). Lacks asked fault ⊎ Unused fault)
     (λ fault either. elim either as (λ _. Lacks asked fault ⊎ Unused fault) [

@@ -7,6 +7,7 @@ use Rattle.filterset_verdicts.proofs.json.verdict_line.Goals as goal
 
 pub returns : goal.returns
 returns c =
+    let decided = c.args.decided.now in
     let d = view c.in_ok-value.value in
-    let compact = c.in_ok-text.ensures.text (verdict_has_no_float c.args.question c.args.is_listed c.args.graph.now c.args.verdict.now d c.in_ok-value.ensures) in
+    let compact = c.in_ok-text.ensures.text (verdict_has_no_float decided.question decided.is_listed c.args.graph.now decided.verdict d c.in_ok-value.ensures) in
     (d, c.in_ok-value.ensures, c.in_ok-push_str.ensures.bytes ∙ ap (λ (t : Text). t ++ codes "\n") compact)
