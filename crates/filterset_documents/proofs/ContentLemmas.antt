@@ -1,6 +1,6 @@
 -- Filtersets of documents.
-use Rattle.std.specs.Prelude.{◌≡◌, List, Global, Vec, true}
-use Rattle.std.specs.Borrow.{Bor}
+use Rattle.std.proofs.Common.{◌≡◌, Global, List, true}
+use Rattle.std.specs.{Borrow.Bor, Prelude.Vec}
 use Rattle.filterset_entries.specs.{Checked.TextRow, Entries.line_rows, Entries.rows_in}
 use Rattle.filterset_entries.specs.declared.entries.ConfiguredTexts.{ConfiguredTexts}
 use Rattle.filterset_display.specs.declared.source.Source.{Source}

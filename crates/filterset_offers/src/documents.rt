@@ -41,8 +41,7 @@ fn complete_gaps(
     gaps: &Gaps<'_>,
 ) -> Result<Value, AllocError>
     ensures { IfOk result (λ value. CompletesGaps (known_of workspace.entry) shown.now.encoding shown.now.lines.text.now
-        (spot_of place.entry.spot)
-        (text_row entry.now) (gap_rows gaps.now) (view value)) }
+        (spot_of place.entry.spot) (text_row entry.now) (gap_rows gaps.now) (view value)) }
 {
     let mut candidates = all_candidates(alloc)?;
     let mut known = known_candidates(alloc, workspace, gaps.name.typed)?;
@@ -63,8 +62,7 @@ fn complete_at(
     entry: &TextEntry<'_>,
 ) -> Result<Value, AllocError>
     ensures { IfOk result (λ value. CompletesAt (known_of workspace.entry) shown.now.encoding shown.now.lines.text.now offset
-        (spot_of place.entry.spot)
-        (text_row entry.now) (view value)) }
+        (spot_of place.entry.spot) (text_row entry.now) (view value)) }
 {
     let Some(gaps) = gaps_at(entry.text, text_offset(place.spot, offset)) else {
         return Ok(Value::Null);

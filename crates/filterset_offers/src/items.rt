@@ -14,29 +14,23 @@ use filterset_entries::FilePlace;
 use serde_json::{Value, json};
 use std::alloc::{AllocError, Global};
 
-/// Makes the edit that puts a candidate in place of a word, which is in this range.
-fn edit_value(
+/// Makes the item of a candidate that is put in place of a word, which is in this range.
+fn item_value(
     alloc: Global,
     candidate: &Candidate<'_>,
     gap: &Gap<'_>,
     range: Value,
 ) -> Result<Value, AllocError>
-    ensures { IfOk result (λ value. view value ≡ edit_data (inserted (row_of candidate.now) (gap_row gap.now)) (view range)) }
+    ensures { IfOk result (λ value. view value ≡ item_data (row_of candidate.now)
+        (edit_data (inserted (row_of candidate.now) (gap_row gap.now)) (view range))) }
 {
     let (label, tail) = (candidate.label, tail_in(candidate, gap));
     let text = format!(in alloc; "{label}{tail}")?;
-    json!(in alloc; { "newText": text, "range": range })
-}
-
-/// Makes the item of a candidate with an edit.
-fn item_value(alloc: Global, candidate: &Candidate<'_>, edit: Value) -> Result<Value, AllocError>
-    ensures { IfOk result (λ value. view value ≡ item_data (row_of candidate.now) (view edit)) }
-{
     json!(in alloc; {
         "detail": candidate.detail,
         "kind": candidate.kind,
-        "label": candidate.label,
-        "textEdit": edit
+        "label": label,
+        "textEdit": { "newText": text, "range": range },
     })
 }
 
@@ -53,8 +47,7 @@ fn item_of(
 {
     let gap = gap_for(candidate, gaps);
     let range = span_value(alloc, shown, span_in(place, gap.at))?;
-    let edit = edit_value(alloc, candidate, &gap, range)?;
-    item_value(alloc, candidate, edit)
+    item_value(alloc, candidate, &gap, range)
 }
 
 /// Makes the items of candidates for a filterset at this place.

@@ -1,8 +1,7 @@
 //! What predicates match in a workspace, as Markdown.
 ghost use Rattle.std.specs.Prelude.{◌≡◌, IfOk, string_bytes};
 ghost use Rattle.filterset_language.specs.Views.{leaf_of};
-ghost use Rattle.filterset_offers.specs.Workspaces.{known_of};
-ghost use Rattle.filterset_offers.specs.Matches.{SaysMatched, shortlist_text};
+ghost use Rattle.filterset_offers.specs.{Matches.SaysMatched, Matches.shortlist_text, Workspaces.known_of};
 
 use crate::matched::{Matched, Shortlist, match_leaf};
 use crate::words::code_span;

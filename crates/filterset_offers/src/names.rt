@@ -1,10 +1,9 @@
 //! The names of a workspace that may be offered.
 ghost use Rattle.std.specs.Prelude.{◌≡◌, ◌&&◌, IfOk, length, map, nat_lt, not};
 ghost use Rattle.std.specs.{List.list_all, List.list_any, Str.bytes_eq};
-ghost use Rattle.filterset_offers.specs.Workspaces.{known_of, workspace_row};
+ghost use Rattle.filterset_offers.specs.{Candidates.row_of, Workspaces.known_of, Workspaces.workspace_row};
 ghost use Rattle.filterset_offers.specs.Candidates as candidates;
-ghost use Rattle.filterset_offers.specs.Candidates.{row_of};
-ghost use Rattle.filterset_offers.specs.Names.{AreKnown, AreNamed, AreNames, IsGathered, may_lack};
+ghost use Rattle.filterset_offers.specs.Names.{AreKnown, AreNames, IsGathered, may_lack};
 ghost use Rattle.filterset_offers.specs.Names as spec;
 
 use crate::candidates::{Candidate, is_name_byte, naming};
@@ -87,24 +86,6 @@ fn candidates_for<'w>(
     candidates_of(alloc, named, found.as_slice())
 }
 
-/// Makes the candidates of the names of a workspace.
-fn named_candidates<'w>(
-    alloc: Global,
-    workspace: &Workspace<'w>,
-    typed: &str,
-) -> Result<Vec<Candidate<'w>>, AllocError>
-    ensures { IfOk result (λ made. AreNamed (workspace_row workspace.now) typed.now (map row_of made.items)) }
-{
-    let mut made = candidates_for(alloc, workspace, typed, Named::Package)?;
-    let mut binaries = candidates_for(alloc, workspace, typed, Named::Binary)?;
-    let mut ids = candidates_for(alloc, workspace, typed, Named::BinaryId)?;
-    let mut tests = candidates_for(alloc, workspace, typed, Named::Test)?;
-    made.append(&mut binaries)?;
-    made.append(&mut ids)?;
-    made.append(&mut tests)?;
-    Ok(made)
-}
-
 /// Makes the candidates of the names of a workspace, if there is one.
 pub fn known_candidates<'w>(
     alloc: Global,
@@ -113,10 +94,17 @@ pub fn known_candidates<'w>(
 ) -> Result<Vec<Candidate<'w>>, AllocError>
     ensures { IfOk result (λ made. AreKnown (known_of workspace.entry) typed.now (map row_of made.items)) }
 {
-    match workspace {
-        Some(workspace) => named_candidates(alloc, &workspace, typed),
-        None => Ok(Vec::new(alloc)),
-    }
+    let Some(workspace) = workspace else {
+        return Ok(Vec::new(alloc));
+    };
+    let mut made = candidates_for(alloc, &workspace, typed, Named::Package)?;
+    let mut binaries = candidates_for(alloc, &workspace, typed, Named::Binary)?;
+    let mut ids = candidates_for(alloc, &workspace, typed, Named::BinaryId)?;
+    let mut tests = candidates_for(alloc, &workspace, typed, Named::Test)?;
+    made.append(&mut binaries)?;
+    made.append(&mut ids)?;
+    made.append(&mut tests)?;
+    Ok(made)
 }
 
 /// Returns whether names may be missing among candidates.

@@ -128,13 +128,6 @@ fn stands_in(
     }
 }
 
-/// Returns whether the name of a candidate begins with what is typed.
-fn is_begun(candidate: &Candidate<'_>, gap: &Gap<'_>) -> bool
-    ensures { result ≡ spec.is_begun (row_of candidate.now) (gap_row gap.now) }
-{
-    candidate.label.as_bytes().starts_with(gap.typed.as_bytes())
-}
-
 /// Returns whether a candidate fits: it begins with what is typed, and stands in its place.
 pub fn fits(
     alloc: Global,
@@ -146,7 +139,8 @@ pub fn fits(
     ensures { IfOk result (Fits kind (gap_rows gaps.now) is_closed (row_of candidate.now)) }
 {
     let gap = gap_for(candidate, gaps);
-    if is_begun(candidate, &gap) {
+    let (label, typed) = (candidate.label.as_bytes(), gap.typed.as_bytes());
+    if label.starts_with(typed) {
         stands_in(alloc, kind, is_closed, candidate, &gap)
     } else {
         Ok(false)

@@ -19,5 +19,5 @@ returns c =
     (λ value is.
     let For : GapRow → Type 0 = λ gap. (r : Data) × IsRange shown.encoding text (span_in spot gap.at) r
     × (view value ≡ item_data row (edit_data (inserted row gap) r)) in
-    subst For c.gap_for-gap.ensures (range, ranged, is ∙ ap (item_data row) c.in_ok-edit.ensures))
+    subst For c.gap_for-gap.ensures (range, ranged, is))
     c.item_value.ensures

@@ -10,7 +10,7 @@ returns-in-Ok c =
     let after = c.args.after.now in
     let other = content_row c.content.result in
     let is_list = none_seen (λ g. map bytes_of g.now) c.args.content.groups c.is_none-is_list.result c.is_none-is_list.ensures in
-    let made : List TextRow → ContentRow = λ rows. record { groups = names_in c.in-Ok.document.groups; rows = rows } in
+    let made : List TextRow → ContentRow = λ rows. record { groups = names_in c.in-Ok.document.rest; rows = rows } in
     let same : other ≡ made (map text_row c.in_ok-entries-in-Ok.entries.items) =
     c.content.ensures ∙ ap (λ es. made (map text_row es)) c.as_slice.ensures.value in
     let Is : Bool → Type 0 = λ b. Holds b after other in

@@ -1,9 +1,9 @@
 use Rattle.std.proofs.{Common.arith, Common.map, lemmas.Grind.common_steps, lemmas.List.map-append}
 use Rattle.filterset_offers.specs.Candidates.{row_of}
-use Rattle.filterset_offers.proofs.names.named_candidates.Goals as goal
+use Rattle.filterset_offers.proofs.names.known_candidates.Goals as goal
 
 pub returns : goal.returns
-returns c = (
+returns c = rw c.in-Some.is (
   map row_of c.in_ok-made.made.items,
   map row_of c.in_ok-binaries.binaries.items,
   map row_of c.in_ok-ids.ids.items,
