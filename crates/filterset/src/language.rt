@@ -1,17 +1,12 @@
 //! What the server says of documents.
-ghost use Rattle.std.specs.Prelude.{◌≡◌, IfOk, IfSome, map, string_bytes};
+ghost use Rattle.std.specs.Prelude.{◌≡◌, IfOk, string_bytes};
 ghost use Rattle.serde_json.specs.View.{view};
-ghost use Rattle.toml.specs.View as tables;
-ghost use Rattle.filterset_sources.specs.Configurations.{IsFile};
-ghost use Rattle.filterset_entries.specs.Checked.{text_row};
-ghost use Rattle.filterset_documents.specs.{Contents.content_row, Contents.names_in, Filtersets.is_list};
-ghost use Rattle.filterset_offers.specs.{Unmatched.DiagnosesContentIn, Workspaces.known_of};
+ghost use Rattle.filterset_documents.specs.{Contents.content_row, Filtersets.is_list};
+ghost use Rattle.filterset_offers.specs.Workspaces.{known_of};
 ghost use Rattle.filterset.specs.Responses.{RespondsContent};
 
 use filterset_display::{Document, Encoding, Inquiry, Language, Lines};
-use filterset_documents::{
-    Background, Content, OpenDocument, Shown, diagnose_entries, diagnose_refusal,
-};
+use filterset_documents::{Content, OpenDocument, Shown, diagnose_entries, diagnose_refusal};
 use filterset_entries::TextEntry;
 use filterset_offers::{Workspace, complete_entries, hover_entries, warn_entries};
 use filterset_server::{act_on, folds_value, format_content, highlight_entries, symbols_value};
@@ -32,24 +27,6 @@ fn is_list(language: &str) -> bool
     ensures { result ≡ is_list language.now }
 {
     language == "filterset"
-}
-
-/// Makes the diagnostics of what a document holds, and then its warnings, if a workspace is known.
-fn diagnose_content(
-    alloc: Global,
-    workspace: Option<Workspace<'_>>,
-    shown: &Shown<'_>,
-    background: Option<Background>,
-    entries: &[TextEntry<'_>],
-) -> Result<Vec<Value>, AllocError>
-    requires { IfSome background (λ b. IsFile shown.now.lines.text.now (tables.view b.file)) }
-    ensures { IfOk result (λ values. DiagnosesContentIn (known_of workspace.entry) shown.now.encoding shown.now.lines.text.now
-        (record { groups = names_in background; rows = map text_row entries.now }) (map view values.items)) }
-{
-    let mut values = diagnose_entries(alloc, shown, background, entries)?;
-    let mut warnings = warn_entries(alloc, workspace, shown, entries)?;
-    values.append(&mut warnings)?;
-    Ok(values)
 }
 
 /// Makes the result of a request about a document, which has this address and content.
@@ -96,18 +73,13 @@ impl Language for FiltersetLanguage<'_> {
         let shown = Shown { encoding, lines };
         match OpenDocument::read(alloc, text, is_list) {
             Ok(open) => {
-                let OpenDocument {
-                    filtersets,
-                    background,
-                } = open;
-                let entries = filtersets.entries(alloc)?;
-                diagnose_content(
-                    alloc,
-                    self.workspace,
-                    &shown,
-                    background,
-                    entries.as_slice(),
-                )
+                let OpenDocument { filtersets, rest } = open;
+                let found = filtersets.entries(alloc)?;
+                let entries = found.as_slice();
+                let mut values = diagnose_entries(alloc, &shown, rest, entries)?;
+                let mut warnings = warn_entries(alloc, self.workspace, &shown, entries)?;
+                values.append(&mut warnings)?;
+                Ok(values)
             }
             Err(refusal) => diagnose_refusal(alloc, &shown, &refusal),
         }

@@ -42,7 +42,8 @@ pub fn warn_configuration(
     let source = configured.texts.file;
     let entries = configured_entries(alloc, configured.texts)?;
     let (text, file) = (source.text, configured.file);
-    let remarks = unread_remarks(alloc, ParsedText { text, file }, entries.as_slice())?;
+    let parsed = ParsedText { text, file };
+    let remarks = unread_remarks(alloc, parsed, entries.as_slice())?;
     let whole = Stretch {
         from: 0,
         to: source.text.len(),

@@ -10,7 +10,7 @@ use Rattle.filterset_sources.specs.Configurations.{IsConfiguration, RefusesConfi
 use Rattle.filterset_sources.specs.declared.configuration.Configuration.{Configuration}
 use Rattle.filterset_sources.specs.declared.refusal.SourceRefusal.{SourceRefusal}
 use Rattle.filterset_documents.specs.Filtersets.{AreTexts, AreTextsOf, SaysWhy}
-use Rattle.filterset_documents.specs.declared.content.{Background.Background, Content.Content, Filtersets.Filtersets}
+use Rattle.filterset_documents.specs.declared.content.{Rest.Rest, Content.Content, Filtersets.Filtersets}
 use Rattle.filterset_documents.specs.declared.content.Filtersets.TheVariants.{Configured, Lines}
 
 -- the filtersets of a document, and the names of the groups of a configuration
@@ -19,8 +19,8 @@ pub record ContentRow : Type 0 where
   pub rows : List TextRow
 
 -- the names of the groups of a configuration
-abbrev pub names_in : Option Background → Option (List Text)
-names_in background = option_map (λ b. map (λ s. string_bytes s) b.groups.items) background
+abbrev pub names_in : Option Rest → Option (List Text)
+names_in rest = option_map (λ b. map (λ s. string_bytes s) b.groups.items) rest
 
 abbrev pub content_row : Content → ContentRow
 content_row c = record {

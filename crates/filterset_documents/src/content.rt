@@ -36,18 +36,18 @@ impl Filtersets<'_> {
     }
 }
 
-/// What a document has beside its filtersets: the names of its test groups, and what its text was parsed as.
+/// What a configuration has beside its filtersets: the names of its test groups, and what its text was parsed as.
 #[derive(Debug, Drop)]
-pub struct Background {
+pub struct Rest {
     pub groups: Vec<String>,
     pub file: Value,
 }
 
-/// A document that was read: its filtersets, and what else there is of a configuration.
+/// A document that was read: its filtersets, and the rest of a configuration.
 #[derive(Debug, Drop)]
 pub struct OpenDocument<'t> {
     pub filtersets: Filtersets<'t>,
-    pub background: Option<Background>,
+    pub rest: Option<Rest>,
 }
 
 impl<'t> OpenDocument<'t> {
@@ -59,8 +59,8 @@ impl<'t> OpenDocument<'t> {
         is_list: bool,
     ) -> Result<OpenDocument<'t>, SourceRefusal>
         ensures read { IfOk result (λ document. (rows : List TextRow) → AreRowsOf document.filtersets rows
-            → Holds is_list text.entry.now (record { groups = names_in document.background; rows = rows })) }
-        ensures parsed { IfOk result (λ document. IfSome document.background (λ b. IsFile text.entry.now (view b.file))) }
+            → Holds is_list text.entry.now (record { groups = names_in document.rest; rows = rows })) }
+        ensures parsed { IfOk result (λ document. IfSome document.rest (λ r. IsFile text.entry.now (view r.file))) }
         ensures refused { IfErr result (RefusesConfiguration text.entry.now) }
         ensures configuration { IfErr result (λ refusal. SaysWhy refusal → is_list ≡ false) }
     {
@@ -68,14 +68,14 @@ impl<'t> OpenDocument<'t> {
         if is_list {
             return Ok(OpenDocument {
                 filtersets: Filtersets::Lines(file),
-                background: None,
+                rest: None,
             });
         }
         let configuration = read_configuration(alloc, text)?;
         let places = Places::of(alloc, text, &configuration)?;
         Ok(OpenDocument {
             filtersets: Filtersets::Configured(file, configuration.filtersets, places),
-            background: Some(Background {
+            rest: Some(Rest {
                 groups: configuration.groups,
                 file: configuration.file,
             }),
@@ -85,10 +85,10 @@ impl<'t> OpenDocument<'t> {
     /// Returns what the document holds, of which these are the entries.
     pub fn content<'g, 'e>(&'g self, entries: &'e [TextEntry<'_>]) -> Content<'g, 'e>
         ensures { content_row result
-            ≡ record { groups = names_in self.entry.now.background; rows = map text_row entries.entry.now } }
+            ≡ record { groups = names_in self.entry.now.rest; rows = map text_row entries.entry.now } }
     {
-        let groups = match &self.background {
-            Some(background) => Some(background.groups.as_slice()),
+        let groups = match &self.rest {
+            Some(rest) => Some(rest.groups.as_slice()),
             None => None,
         };
         Content { groups, entries }

@@ -11,10 +11,9 @@ mod ranges;
 mod refusals;
 mod rows;
 mod trees;
-mod unread;
 mod values;
 
-pub use content::{Background, Content, Filtersets, OpenDocument};
+pub use content::{Content, Filtersets, OpenDocument, Rest};
 pub use diagnostics::{diagnostic_at, remark_value};
 pub use filterset_entries::leaf_span;
 pub use offsets::{entry_at, is_in};

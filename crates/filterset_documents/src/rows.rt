@@ -10,11 +10,10 @@ ghost use Rattle.filterset_documents.specs.Diagnostics.{AreDiagnosed, DiagnosesC
 ghost use Rattle.filterset_documents.specs.Joins.{Joins};
 ghost use Rattle.filterset_display.specs.Remarks.{remark_row};
 
-use crate::content::Background;
+use crate::content::Rest;
 use crate::diagnostics::remark_value;
 use crate::ranges::Shown;
-use crate::unread::diagnose_unread;
-use crate::values::diagnose_values;
+use crate::values::{diagnose_unread, diagnose_values};
 use filterset_display::Remark;
 use filterset_entries::{FilePlace, Names, TextEntry, faults_of, file_part};
 use filterset_faults::SourceSpan;
@@ -71,21 +70,21 @@ fn diagnose_rows(
     Ok(values)
 }
 
-/// Makes the diagnostics of the filtersets of a document, which is a configuration if it has a background. Then the warnings of its
-/// other values follow, and of what nextest does not read of it.
+/// Makes the diagnostics of the filtersets of a document, which is a configuration if there is a rest of one. Then the
+/// warnings of its other values follow, and of what nextest does not read of it.
 pub fn diagnose_entries(
     alloc: Global,
     shown: &Shown<'_>,
-    background: Option<Background>,
+    rest: Option<Rest>,
     entries: &[TextEntry<'_>],
 ) -> Result<Vec<Value>, AllocError>
-    requires { IfSome background (λ b. IsFile shown.now.lines.text.now (tables.view b.file)) }
+    requires { IfSome rest (λ r. IsFile shown.now.lines.text.now (tables.view r.file)) }
     ensures { IfOk result (λ values. DiagnosesContent shown.now.encoding shown.now.lines.text.now
-        (record { groups = names_in background; rows = map text_row entries.now }) (map view values.items)) }
+        (record { groups = names_in rest; rows = map text_row entries.now }) (map view values.items)) }
 {
     let graph = PackageGraph::empty(alloc);
-    match background {
-        Some(Background { groups, file }) => {
+    match rest {
+        Some(Rest { groups, file }) => {
             let text = shown.lines.text;
             let parsed = ParsedText { text, file: &file };
             let known = Names::new(alloc, &graph, false, groups, true)?;

@@ -1,13 +1,15 @@
-//! The warnings of wrong values of nextest's configuration.
+//! The warnings of wrong values of nextest's configuration, and of what nextest does not read of it.
 ghost use Rattle.std.specs.Prelude.{◌≡◌, IfOk, map};
 ghost use Rattle.serde_json.specs.View.{view};
-ghost use Rattle.filterset_documents.specs.Diagnostics.{AreValueWarnings, IsValueWarning, value_span};
+ghost use Rattle.filterset_entries.specs.Checked.{text_row};
+ghost use Rattle.filterset_documents.specs.Diagnostics.{AreUnreadWarnings, AreValueWarnings, IsValueWarning, value_span};
 
-use crate::diagnostics::diagnostic_at;
+use crate::diagnostics::{diagnostic_at, remark_value};
 use crate::message::wrong_message;
 use crate::ranges::Shown;
 use filterset_configuration::{WrongValue, find_wrong_values};
 use filterset_display::Severity;
+use filterset_entries::{TextEntry, unread_remarks};
 use filterset_faults::SourceSpan;
 use filterset_sources::ParsedText;
 use serde_json::Value;
@@ -53,6 +55,26 @@ pub(crate) fn diagnose_values(
     let mut values = Vec::with_capacity(alloc, found.len())?;
     for wrong in &found {
         values.push(value_warning(alloc, shown, wrong)?)?;
+    }
+    Ok(values)
+}
+
+/// Makes the warnings of what nextest does not read of a configuration, whose filtersets these are.
+pub(crate) fn diagnose_unread(
+    alloc: Global,
+    shown: &Shown<'_>,
+    parsed: ParsedText<'_>,
+    entries: &[TextEntry<'_>],
+) -> Result<Vec<Value>, AllocError>
+    requires { parsed.text.now ≡ shown.now.lines.text.now }
+    ensures { IfOk result (λ values. AreUnreadWarnings shown.now.encoding shown.now.lines.text.now
+        (map text_row entries.now) (map view values.items)) }
+{
+    let remarks = unread_remarks(alloc, parsed, entries)?;
+    let mut values = Vec::with_capacity(alloc, remarks.len())?;
+    for remark in &remarks {
+        let span = remark.span.unwrap_or(SourceSpan::new(0, 0));
+        values.push(remark_value(alloc, shown, span, remark)?)?;
     }
     Ok(values)
 }

@@ -76,7 +76,8 @@ pub fn read_profiles_file<F: FileSource>(
 {
     let read = read_configuration_file(alloc, files, path)?;
     let (text, file) = (read.text.as_str(), &read.configuration.file);
-    let profiles = profiles_in(alloc, path, ParsedText { text, file })?;
+    let parsed = ParsedText { text, file };
+    let profiles = profiles_in(alloc, path, parsed)?;
     Ok(ProfilesFile {
         text: read.text,
         filtersets: read.configuration.filtersets,

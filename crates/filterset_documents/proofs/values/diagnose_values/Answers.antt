@@ -11,7 +11,7 @@ returns c =
     let found = c.deref-wrong-items.result.now in
     let are = c.loop-wrong.invariant in
     let Are : List WrongValue → Type 0 = λ ws. AreWrongValues c.args.shown.now.lines.text.now ws in
-    (found, subst Are (sym c.deref-wrong-items.ensures.value) c.in_ok-found.ensures, rw (take_all c.loop-wrong.wrong-index found c.loop-wrong-test.false) at are)
+    (found, subst Are (sym c.deref-wrong-items.ensures.value) (rw c.requires at c.in_ok-found.ensures), rw (take_all c.loop-wrong.wrong-index found c.loop-wrong-test.false) at are)
 
 pub loop-wrong-preserved : goal.loop-wrong-preserved
 loop-wrong-preserved c =

@@ -7,14 +7,14 @@ use Rattle.filterset_display.specs.{Remarks.remark_row, declared.remark.Remark.R
 use Rattle.filterset_faults.specs.Span.{span}
 use Rattle.filterset_documents.specs.Diagnostics.{IsRemarkAt}
 use Rattle.filterset_documents.proofs.JoinLemmas.{Zips-rows}
-use Rattle.filterset_documents.proofs.unread.diagnose_unread.Goals as goal
+use Rattle.filterset_documents.proofs.values.diagnose_unread.Goals as goal
 
 pub returns : goal.returns
 returns c =
     let remarks = c.deref-remark-items.result.now in
     let are = c.loop-remark.invariant in
     let Are : List Remark → Type 0 = λ rs. AreUnreadRemarks c.args.shown.now.lines.text.now (map text_row c.args.entries.now) (map remark_row rs) in
-    (map remark_row remarks, subst Are (sym c.deref-remark-items.ensures.value) c.in_ok-remarks.ensures, rw (take_all c.loop-remark.remark-index remarks c.loop-remark-test.false) at are)
+    (map remark_row remarks, subst Are (sym c.deref-remark-items.ensures.value) (rw c.requires at c.in_ok-remarks.ensures), rw (take_all c.loop-remark.remark-index remarks c.loop-remark-test.false) at are)
 
 pub loop-remark-preserved : goal.loop-remark-preserved
 loop-remark-preserved c =

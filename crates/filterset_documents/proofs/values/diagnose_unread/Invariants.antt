@@ -4,7 +4,7 @@ use Rattle.serde_json.specs.View.{view}
 use Rattle.filterset_display.specs.Remarks.{remark_row}
 use Rattle.filterset_faults.specs.Span.{span}
 use Rattle.filterset_documents.specs.Diagnostics.{IsRemarkAt}
-use Rattle.filterset_documents.proofs.unread.diagnose_unread.Given as goal
+use Rattle.filterset_documents.proofs.values.diagnose_unread.Given as goal
 
 -- the remarks so far have their warnings
 abbrev pub invariant-loop-remark : goal.invariant-loop-remark
