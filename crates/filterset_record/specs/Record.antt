@@ -33,13 +33,13 @@ pub record RecordRow : Type 0 where
   pub binaries : List BinaryRow
   pub command : Command
 
--- what a kind of build targets is called: as the test binary that is made of one, or `build` for a build script
-abbrev pub target_kind : BuildTargetId → Text
-target_kind id = unwrap_or (kind_of id) (codes "build")
+-- the value is what the kind of build targets is called: as the test binary that is made of one, or `build` for a script
+abbrev pub IsTargetKind : Data → BuildTargetId → Type 0
+IsTargetKind d id = IsText d (unwrap_or (kind_of id) (codes "build"))
 
 abbrev pub IsTarget : Data → BuildTarget → Type 0
 IsTarget d target = IsObjectWith (map codes ("kind" ∷ "name" ∷ [])) d
-    × Required (codes "kind") IsText d (target_kind target.id)
+    × Required (codes "kind") IsTargetKind d target.id
     × Required (codes "name") IsText d (string_bytes target.name)
 
 -- a package, which belongs to the workspace where nothing else is said
@@ -73,10 +73,10 @@ IsFilterset d filterset = (IsText d filterset.text × (filterset.kind ≡ kinds.
     × Required (codes "text") IsText d filterset.text
     × Required (codes "kind") IsText d (kind_text filterset.kind))
 
--- what each command is called
-abbrev pub command_text : Command → Text
-command_text Report = codes "report"
-command_text Format = codes "format"
+-- the value is what the command is called
+abbrev pub IsCommand : Data → Command → Type 0
+IsCommand d Report = IsText d (codes "report")
+IsCommand d Format = IsText d (codes "format")
 
 -- a record, whose default filter holds every test, and which asks for a report, where nothing else is said
 abbrev pub IsRecord : Data → RecordRow → Type 0
@@ -87,18 +87,10 @@ IsRecord d row =
     × Optional (codes "groups") (IsListOf IsText) [] d row.groups
     × Optional (codes "default") IsText (codes "all()") d row.default_filter
     × Optional (codes "binaries") (IsListOf IsBinary) [] d row.binaries
-    × Optional (codes "command") (λ e command. IsText e (command_text command)) Report d row.command
+    × Optional (codes "command") IsCommand Report d row.command
 
--- ---- parts that are read by themselves
-
--- the value is what the kind of build targets is called
-abbrev pub IsTargetKind : Data → BuildTargetId → Type 0
-IsTargetKind d id = IsText d (target_kind id)
+-- ---- read by itself
 
 -- the value is what the kind of filtersets is called
 abbrev pub IsFiltersetKind : Data → FiltersetKind → Type 0
 IsFiltersetKind d kind = IsText d (kind_text kind)
-
--- the value is what the command is called
-abbrev pub IsCommand : Data → Command → Type 0
-IsCommand d command = IsText d (command_text command)

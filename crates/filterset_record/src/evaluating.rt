@@ -14,11 +14,13 @@ use filterset_expression::{BinaryQuery, CompiledExpr, Connective, FiltersetLeaf}
 use filterset_matchers::NameMatcher;
 use std::alloc::{AllocError, Global};
 
-/// The answers of a default filter.
+/// The tests of a binary, and the answers of a default filter for them.
 #[derive(Drop)]
-pub(crate) struct DefaultAnswers<'a> {
+pub(crate) struct AskedTests<'a> {
+    pub(crate) query: &'a BinaryQuery<'a>,
+    pub(crate) names: &'a Names<'a>,
     pub(crate) filter: &'a CompiledExpr,
-    pub(crate) column: Column,
+    pub(crate) defaults: Column,
 }
 
 /// Returns whether the leaf matches the binary. A leaf that is about the test or the default filter matches none.
@@ -96,29 +98,29 @@ fn narrow(
 fn evaluate_leaf<'a>(
     alloc: Global,
     leaf: &'a FiltersetLeaf,
-    query: &BinaryQuery<'_>,
-    names: &Names<'_>,
+    tests: &AskedTests<'_>,
     groups: &dyn PlacedLookup,
-    default: &DefaultAnswers<'_>,
     wanted: &Column,
     searchers: &mut Searchers<'a>,
 ) -> Result<Column, AllocError>
-    requires default { Answered default.now.column (names_of names.now) (λ name.
-        TrueWhere (HoldsOfTest (test_of query.now name) (matches_group groups.now)) (formula default.now.filter.now)) }
-    requires wanted { wanted.now.len ≡ length (names_of names.now) }
-    ensures { IfOk result (λ column. AnsweredWhere wanted.now column (names_of names.now) (λ name.
-        TrueWhere (HoldsOfTest (test_of query.now name) (matches_group groups.now))
-        (leaf_with_default default.now.filter.now (compiled_leaf leaf.now)))) }
+    requires default { Answered tests.now.defaults (names_of tests.now.names.now) (λ name.
+        TrueWhere (HoldsOfTest (test_of tests.now.query.now name) (matches_group groups.now)) (formula tests.now.filter.now)) }
+    requires wanted { wanted.now.len ≡ length (names_of tests.now.names.now) }
+    ensures { IfOk result (λ column. AnsweredWhere wanted.now column (names_of tests.now.names.now) (λ name.
+        TrueWhere (HoldsOfTest (test_of tests.now.query.now name) (matches_group groups.now))
+        (leaf_with_default tests.now.filter.now (compiled_leaf leaf.now)))) }
 {
     match leaf {
-        FiltersetLeaf::Test(matcher, _) => search_names(alloc, matcher, names, wanted, searchers),
-        FiltersetLeaf::Group(matcher, _) => {
-            search_groups(alloc, matcher, query, names, groups, wanted)
+        FiltersetLeaf::Test(matcher, _) => {
+            search_names(alloc, matcher, tests.names, wanted, searchers)
         }
-        FiltersetLeaf::Default => default.column.try_clone(),
+        FiltersetLeaf::Group(matcher, _) => {
+            search_groups(alloc, matcher, tests.query, tests.names, groups, wanted)
+        }
+        FiltersetLeaf::Default => tests.defaults.try_clone(),
         _ => {
-            let answer = matches_binary(alloc, leaf, query)?;
-            Ok(Column::same(names.len(), answer))
+            let answer = matches_binary(alloc, leaf, tests.query)?;
+            Ok(Column::same(tests.names.len(), answer))
         }
     }
 }
@@ -131,37 +133,31 @@ fn evaluate_leaf<'a>(
 fn evaluate_where<'a>(
     alloc: Global,
     expr: &'a CompiledExpr,
-    query: &BinaryQuery<'_>,
-    names: &Names<'_>,
+    tests: &AskedTests<'_>,
     groups: &dyn PlacedLookup,
-    default: &DefaultAnswers<'_>,
     wanted: &Column,
     searchers: &mut Searchers<'a>,
 ) -> Result<Column, AllocError>
-    requires default { Answered default.now.column (names_of names.now) (λ name.
-        TrueWhere (HoldsOfTest (test_of query.now name) (matches_group groups.now)) (formula default.now.filter.now)) }
-    requires wanted { wanted.now.len ≡ length (names_of names.now) }
-    ensures { IfOk result (λ column. AnsweredWhere wanted.now column (names_of names.now) (λ name.
-        TrueWhere (HoldsOfTest (test_of query.now name) (matches_group groups.now))
-        (with_default default.now.filter.now expr.now))) }
+    requires default { Answered tests.now.defaults (names_of tests.now.names.now) (λ name.
+        TrueWhere (HoldsOfTest (test_of tests.now.query.now name) (matches_group groups.now)) (formula tests.now.filter.now)) }
+    requires wanted { wanted.now.len ≡ length (names_of tests.now.names.now) }
+    ensures { IfOk result (λ column. AnsweredWhere wanted.now column (names_of tests.now.names.now) (λ name.
+        TrueWhere (HoldsOfTest (test_of tests.now.query.now name) (matches_group groups.now))
+        (with_default tests.now.filter.now expr.now))) }
 {
     if wanted.is_same(false) {
         searchers.pass(expr);
-        return Ok(Column::same(names.len(), false));
+        return Ok(Column::same(tests.names.len(), false));
     }
     let mut operators = searchers.take_operators(alloc);
     let leaf = list_operators(expr, &mut operators)?;
-    let mut column = evaluate_leaf(
-        alloc, leaf, query, names, groups, default, wanted, searchers,
-    )?;
+    let mut column = evaluate_leaf(alloc, leaf, tests, groups, wanted, searchers)?;
     while let Some(operator) = operators.pop() {
         column = match operator {
             Operator::Negation => column.negated(),
             Operator::Binary(connective, right) => {
                 let narrowed = narrow(connective, right, wanted, &column)?;
-                let other = evaluate_where(
-                    alloc, right, query, names, groups, default, &narrowed, searchers,
-                )?;
+                let other = evaluate_where(alloc, right, tests, groups, &narrowed, searchers)?;
                 column.combined(connective, other)
             }
         };
@@ -175,22 +171,19 @@ fn evaluate_where<'a>(
 pub(crate) fn evaluate<'a>(
     alloc: Global,
     expr: &'a CompiledExpr,
-    query: &BinaryQuery<'_>,
-    names: &Names<'_>,
+    tests: &AskedTests<'_>,
     groups: &dyn PlacedLookup,
-    default: &DefaultAnswers<'_>,
     searchers: &mut Searchers<'a>,
 ) -> Result<Column, AllocError>
-    requires { Answered default.now.column (names_of names.now) (λ name.
-        TrueWhere (HoldsOfTest (test_of query.now name) (matches_group groups.now)) (formula default.now.filter.now)) }
-    ensures { IfOk result (λ column. Answered column (names_of names.now) (λ name.
-        TrueWhere (HoldsOfTest (test_of query.now name) (matches_group groups.now))
-        (with_default default.now.filter.now expr.now))) }
+    requires { Answered tests.now.defaults (names_of tests.now.names.now) (λ name.
+        TrueWhere (HoldsOfTest (test_of tests.now.query.now name) (matches_group groups.now)) (formula tests.now.filter.now)) }
+    ensures { IfOk result (λ column. Answered column (names_of tests.now.names.now) (λ name.
+        TrueWhere (HoldsOfTest (test_of tests.now.query.now name) (matches_group groups.now))
+        (with_default tests.now.filter.now expr.now))) }
 {
-    let wanted = Column::same(names.len(), true);
-    evaluate_where(
-        alloc, expr, query, names, groups, default, &wanted, searchers,
-    )
+    let wanted = Column::same(tests.names.len(), true);
+    searchers.rewind();
+    evaluate_where(alloc, expr, tests, groups, &wanted, searchers)
 }
 
 /// Evaluates an expression in which a `default` leaf matches nothing. The only error is out of memory, here or in the
@@ -207,10 +200,11 @@ pub(crate) fn evaluate_itself<'a>(
         TrueWhere (HoldsOfTest (test_of query.now name) (matches_group groups.now)) (formula expr.now))) }
 {
     let own = CompiledExpr::Set(FiltersetLeaf::Default);
-    let default = DefaultAnswers {
+    let tests = AskedTests {
+        query,
+        names,
         filter: &own,
-        column: Column::same(names.len(), false),
+        defaults: Column::same(names.len(), false),
     };
-    searchers.rewind();
-    evaluate(alloc, expr, query, names, groups, &default, searchers)
+    evaluate(alloc, expr, &tests, groups, searchers)
 }

@@ -8,7 +8,7 @@ ghost use Rattle.filterset_expression.specs.Expression.{has_leaf, is_default, is
 ghost use Rattle.filterset_expression.specs.Meaning.{IsCompiled, Meaning};
 
 use crate::column::Column;
-use crate::evaluating::{DefaultAnswers, evaluate, evaluate_itself};
+use crate::evaluating::{AskedTests, evaluate, evaluate_itself};
 use crate::groups::PlacedLookup;
 use crate::names::Names;
 use crate::search::Searchers;
@@ -60,25 +60,14 @@ impl<'a> ColumnExpr<'a> {
             return evaluate_itself(alloc, self.expr, query, names, groups, &mut self.searchers);
         }
         let filter = self.context.default_filter();
-        let column = evaluate_itself(
-            alloc,
+        let searchers = &mut self.default_searchers;
+        let tests = AskedTests {
+            query,
+            names,
             filter,
-            query,
-            names,
-            groups,
-            &mut self.default_searchers,
-        )?;
-        let default = DefaultAnswers { filter, column };
-        self.searchers.rewind();
-        evaluate(
-            alloc,
-            self.expr,
-            query,
-            names,
-            groups,
-            &default,
-            &mut self.searchers,
-        )
+            defaults: evaluate_itself(alloc, filter, query, names, groups, searchers)?,
+        };
+        evaluate(alloc, self.expr, &tests, groups, &mut self.searchers)
     }
 
     /// Returns whether the expression matches each test of a binary; the lookup answers `group` leaves. The only error is

@@ -36,7 +36,7 @@ loop-operator-preserved-in-Negation g t c =
     record {
       below = formulas.Negation before.below;
       whole = popped c.loop-operator.operators.items c.pop.new.self.items Negation c.in-Some.operator before.below (formula c.args.expr.now) c.in-Some.ensures.items c.in-Negation.is before.whole;
-      answered = all_negated c.args.wanted.now c.loop-operator.column c.negated.result (names_of c.args.names.now) _ c.negated.ensures.len c.negated.ensures.negated before.answered;
+      answered = all_negated c.args.wanted.now c.loop-operator.column c.negated.result (names_of c.args.tests.now.names.now) _ c.negated.ensures.len c.negated.ensures.negated before.answered;
     }
 
 pub loop-operator-preserved : goal.loop-operator-preserved
@@ -45,7 +45,7 @@ loop-operator-preserved g t c =
     record {
       below = Compound c.in-Binary.connective before.below (formula c.in-Binary.right.now);
       whole = popped c.loop-operator.operators.items c.pop.new.self.items (Binary c.in-Binary.connective c.in-Binary.right) c.in-Some.operator before.below (formula c.args.expr.now) c.in-Some.ensures.items c.in-Binary.is before.whole;
-      answered = both_combined c.in-Binary.connective c.args.wanted.now c.in_ok-narrowed-in-Binary.narrowed c.loop-operator.column c.in_ok-other-in-Binary.other c.combined.result (names_of c.args.names.now) _ _ c.combined.ensures.len c.combined.ensures.combined c.requires.wanted c.in_ok-narrowed-in-Binary.ensures.least before.answered c.in_ok-other-in-Binary.ensures;
+      answered = both_combined c.in-Binary.connective c.args.wanted.now c.in_ok-narrowed-in-Binary.narrowed c.loop-operator.column c.in_ok-other-in-Binary.other c.combined.result (names_of c.args.tests.now.names.now) _ _ c.combined.ensures.len c.combined.ensures.combined c.requires.wanted c.in_ok-narrowed-in-Binary.ensures.least before.answered c.in_ok-other-in-Binary.ensures;
     }
 
 pub returns : goal.returns
@@ -53,4 +53,4 @@ returns g t c =
     let lookup : Lookup = (dyn.members (clauses.dyn-1-ghosts g.dyn-1) c.args.groups.now).PlacedLookup.matches_group c.args.groups.now.1 in
     let before = c.loop-operator.invariant in
     let same : before.below ≡ formula c.args.expr.now = none_left c.loop-operator.operators.items before.below (formula c.args.expr.now) (omega (arith, c.in_default.ensures.cases.0, c.loop-operator.operators.ok.0)) before.whole in
-    subst (λ (f : Formula CompiledLeaf). AnsweredWhere c.args.wanted.now c.loop-operator.column (names_of c.args.names.now) (λ name. TrueWhere (HoldsOfTest (test_of c.args.query.now name) lookup) (replaced (leaf_with_default c.args.default.now.filter.now) f))) same before.answered
+    subst (λ (f : Formula CompiledLeaf). AnsweredWhere c.args.wanted.now c.loop-operator.column (names_of c.args.tests.now.names.now) (λ name. TrueWhere (HoldsOfTest (test_of c.args.tests.now.query.now name) lookup) (replaced (leaf_with_default c.args.tests.now.filter.now) f))) same before.answered

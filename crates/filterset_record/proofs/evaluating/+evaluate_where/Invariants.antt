@@ -13,7 +13,7 @@ abbrev pub invariant-loop-operator : goal.invariant-loop-operator
 invariant-loop-operator g l = record {
   below : Formula CompiledLeaf;
   whole : applied l.operators.items below ≡ formula l.expr;
-  answered : AnsweredWhere l.wanted l.column (names_of l.names) (λ name. TrueWhere (HoldsOfTest (test_of l.query name) ((dyn.members (clauses.dyn-1-ghosts g.dyn-1) l.groups.now).PlacedLookup.matches_group l.groups.now.1)) (replaced (leaf_with_default l.default.filter.now) below));
+  answered : AnsweredWhere l.wanted l.column (names_of l.tests.names.now) (λ name. TrueWhere (HoldsOfTest (test_of l.tests.query.now name) ((dyn.members (clauses.dyn-1-ghosts g.dyn-1) l.groups.now).PlacedLookup.matches_group l.groups.now.1)) (replaced (leaf_with_default l.tests.filter.now) below));
 }
 
 abbrev pub decreases-loop-operator : goal.decreases-loop-operator
