@@ -2,7 +2,7 @@
 use Rattle.std.specs.Prelude.{◌≡◌, ◌≢◌, ◌⊎◌, List, Option, Some, None, IsSomeAnd, Vec, alloc_error, map, string_bytes}
 use Rattle.std.specs.{Borrow.Bor, Global.Global, declared.io.Error.Error}
 use Rattle.filterset_display.specs.Columns.{Text}
-use Rattle.filterset_configuration.specs.{Places.ArePlaces, declared.place.Place.Place, declared.places.Places.Places}
+use Rattle.filterset_configuration.specs.{Places.ArePlaces, declared.place.Place.Place}
 use Rattle.filterset_configuration.specs.PlatformTrees.{setting_of}
 use Rattle.filterset_configuration.specs.declared.platforms.{fault.CfgRefusal.TheVariants.OutOfMemory, settings.Cfg.Cfg}
 use Rattle.filterset_configuration.specs.Lineages.{IsLineageFault, Lineage}
@@ -11,7 +11,6 @@ use Rattle.filterset_configuration.specs.PlatformReading as cfgs
 use Rattle.filterset_configuration.specs.declared.fault.LineageFault.TheVariants as lineages
 use Rattle.filterset_sources.specs.Configurations.{IsConfiguration, RefusesConfiguration, configured_rows}
 use Rattle.filterset_sources.specs.declared.configuration.Configuration.{Configuration}
-use Rattle.filterset_sources.specs.declared.configuration.ConfiguredFilterset.{ConfiguredFilterset}
 use Rattle.filterset_sources.specs.declared.platforms.BuildPlatforms.{BuildPlatforms}
 use Rattle.filterset_sources.specs.declared.refusal.SourceRefusal.TheVariants.{WrongValue}
 use Rattle.filterset_loading.specs.Files.{BySource, IsContent, IsFaultAt, IsFileFault, name_of}

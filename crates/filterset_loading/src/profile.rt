@@ -4,7 +4,7 @@ ghost use Rattle.filterset_configuration.specs.{Lineages.IsLineageFault, Lineage
 ghost use Rattle.filterset_loading.specs.Configurations.{AreKnown, AreProfilesIn, AreSettings, IsRefusedProfile, IsSettingsFault, LacksProfile, RefusesFile};
 ghost use Rattle.filterset_loading.specs.Files.{IsFileFault, OrMemory};
 
-use crate::configuration::read_configuration_file;
+use crate::configuration::{ConfigurationFile, read_configuration_file};
 use crate::fault::{CommandFault, FileFault, FileRole};
 use crate::files::{FileSource, name_of, read_text};
 use filterset_configuration::{
@@ -12,7 +12,7 @@ use filterset_configuration::{
     read_cfg, read_profiles,
 };
 use filterset_sources::{
-    BuildPlatforms, ConfiguredFilterset, ParsedText, SourceRefusal, WrongValue,
+    BuildPlatforms, Configuration, ConfiguredFilterset, ParsedText, SourceRefusal, WrongValue,
 };
 use std::alloc::{AllocError, Global};
 
@@ -74,15 +74,26 @@ pub fn read_profiles_file<F: FileSource>(
     ensures refused { IfErr result (OrMemory (IsFileFault (F.content files.now) (F.fails files.now)
         FileRole.Configuration RefusesFile path.now)) }
 {
-    let read = read_configuration_file(alloc, files, path)?;
-    let (text, file) = (read.text.as_str(), &read.configuration.file);
-    let parsed = ParsedText { text, file };
+    let ConfigurationFile {
+        text,
+        configuration,
+        places,
+    } = read_configuration_file(alloc, files, path)?;
+    let Configuration {
+        filtersets,
+        groups,
+        file,
+    } = configuration;
+    let parsed = ParsedText {
+        text: text.as_str(),
+        file: &file,
+    };
     let profiles = profiles_in(alloc, path, parsed)?;
     Ok(ProfilesFile {
-        text: read.text,
-        filtersets: read.configuration.filtersets,
-        places: read.places,
-        groups: read.configuration.groups,
+        text,
+        filtersets,
+        places,
+        groups,
         profiles,
     })
 }

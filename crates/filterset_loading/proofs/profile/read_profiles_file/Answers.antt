@@ -7,14 +7,14 @@ use Rattle.filterset_loading.proofs.profile.read_profiles_file.Goals as goal
 
 pub invariant_of-parsed : goal.invariant_of-parsed
 invariant_of-parsed g c =
-    let IsHere : Text → Type 0 = λ bytes. IsFile bytes (view c.in_ok-read.read.configuration.file) in
-    record { is_file = subst IsHere (sym c.as_str.ensures.value) c.in_ok-read.ensures.read.1.0 }
+    let IsHere : Text → Type 0 = λ bytes. IsFile bytes (view c.in_ok-text.field-0.configuration.file) in
+    record { is_file = subst IsHere (sym c.as_str.ensures.value) c.in_ok-text.ensures.read.1.0 }
 
 pub returns-clause-read : goal.returns-clause-read
 returns-clause-read g c =
     let AreHere : Text → Type 0 = λ bytes. HasProfiles bytes c.in_ok-profiles.profiles.items in (
-      c.in_ok-read.read.configuration,
-      c.in_ok-read.ensures.read,
+      c.in_ok-text.field-0.configuration,
+      c.in_ok-text.ensures.read,
       refl,
       refl,
       subst AreHere c.as_str.ensures.value c.in_ok-profiles.ensures.read,

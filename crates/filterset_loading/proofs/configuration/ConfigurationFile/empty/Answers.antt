@@ -1,6 +1,7 @@
-use Rattle.std.proofs.Common.{rules, ◌≡◌, ◌∙◌, List, [], Ok, Some, ap, map, string_bytes, sym}
-use Rattle.toml.specs.{Data.Data, Data.no_members, Data.table, View.view}
-use Rattle.toml.proofs.OnLiterals.{toml_on_literals}
+use Rattle.std.proofs.Common.{◌≡◌, ◌∙◌, List, [], Ok, Some, ap, map, string_bytes, sym}
+use Rattle.toml.specs.{Data.Data, Data.no_members, Data.table, View.members_view, View.view}
+use Rattle.toml.specs.declared.value.Value.{Table}
+use Rattle.toml.proofs.{OnLiterals.toml_on_literals, Views.view-Table}
 use Rattle.std.specs.Prelude.{codes}
 use Rattle.filterset_sources.specs.Configurations.{IsConfiguration, all_filters, configured_rows, keys_of}
 use Rattle.filterset_sources.specs.Sections.{members_under, sections_of}
@@ -17,4 +18,7 @@ empty_is c file filtersets groups = (
 )
 
 pub returns-clause-configuration : goal.returns-clause-configuration
-returns-clause-configuration c = empty_is _ (search rules) (search rules) (search rules)
+returns-clause-configuration c =
+    let file = view-Table c.new-4.result ∙ ap (λ es. table (members_view es)) c.new-4.ensures.empty in
+    let made : Configuration = record { filtersets = c.new-2.result; groups = c.new-3.result; file = Table c.new-4.result } in
+    empty_is made file c.new-2.ensures.items c.new-3.ensures.items
