@@ -21,12 +21,12 @@ origin_of s = s.origin.now
 abbrev text_of : Source → Text
 text_of s = s.text.now
 
-pub invariant_of-configured : goal.invariant_of-configured
-invariant_of-configured g c =
+pub check_all-requires-clause-file : goal.check_all-requires-clause-file
+check_all-requires-clause-file g c =
     let file = c.in_ok-text.field-0 in
     let bytes = ap text_of c.configured_texts-texts.ensures.file ∙ c.in_ok-source.ensures.text ∙ c.as_str.ensures.value in
     let known = known_is _ c.args.paths.now.configuration (string_bytes file.text) file.configuration file.places.places.items c.in_ok-text.ensures.known in
-    record { is_file = subst (λ t. IsFile t (view file.configuration.file)) (sym bytes) known }
+    subst (λ t. IsFile t (view file.configuration.file)) (sym bytes) known
 
 pub returns-clause-answered : goal.returns-clause-answered
 returns-clause-answered g c =
