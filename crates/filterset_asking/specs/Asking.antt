@@ -7,14 +7,13 @@ use Rattle.filterset_entries.specs.{Checked.TextRow, Checked.text_row, Endings.A
 use Rattle.filterset_entries.specs.Entries.{default_row, AreTextsOf, given_row}
 use Rattle.filterset_entries.specs.Profile.{IsEntryOf, IsProfileOf, chosen}
 use Rattle.filterset_entries.specs.declared.entries.ConfiguredTexts.{ConfiguredTexts}
-use Rattle.filterset_entries.specs.declared.setting.{OverrideEntry.OverrideEntry, Setting.Setting}
+use Rattle.filterset_entries.specs.declared.setting.Setting.{Setting}
 use Rattle.filterset_entries.specs.declared.text.{Ending.Ending, TextEntry.TextEntry}
 use Rattle.filterset_display.specs.{declared.remark.Form.Form, declared.remark.Form.TheVariants.Json, Columns.Text}
 use Rattle.filterset_expression.specs.declared.query.TestQuery.{TestQuery}
 use Rattle.filterset_graph.specs.declared.package.PackageMetadata.{PackageMetadata}
 use Rattle.filterset_listing.specs.declared.{binary.AskedBinary.AskedBinary, explaining.candidate.Candidate.Candidate}
 use Rattle.filterset_listing.specs.declared.explaining.candidate.Candidate.TheVariants.{Test}
-use Rattle.filterset_overrides.specs.declared.asked.AskedProfile.{AskedProfile}
 use Rattle.filterset_configuration.specs.{PlatformTrees.facts_of, Lineages.Lineage}
 use Rattle.filterset_configuration.specs.Ranking.{IsDefaultFilter, IsRanked, placed}
 use Rattle.filterset_configuration.specs.declared.{profiles.Profile.Profile, ranking.RankedOverride.RankedOverride}
@@ -23,16 +22,17 @@ use Rattle.filterset_sources.specs.Platforms.{ArePlatforms}
 use Rattle.filterset_sources.specs.declared.{list.Suite.Suite, platforms.BuildPlatforms.BuildPlatforms}
 use Rattle.filterset_asking.specs.Explaining.{IsCandidate, IsMissing, binary_called, is_uncounted}
 use Rattle.filterset_asking.specs.{Warnings.AnswersWarnings, declared.asking.AskedWorkspace.AskedWorkspace}
+use Rattle.filterset_asking.specs.declared.asking.ProfileSetting.{ProfileSetting}
 use Rattle.filterset_asking.specs.declared.asking.Wanted.{Wanted, TheVariants.Answer, TheVariants.Warnings}
 use Rattle.nextest_filtering.specs.Groups.{AreGroups, IsGlobalOnly}
 use Rattle.nextest_filtering.specs.declared.compile.context.KnownGroups.{KnownGroups}
-use Rattle.filterset_loading.specs.Configurations.{AreKnown, AreProfilesIn, IsProfileFault}
+use Rattle.filterset_loading.specs.Configurations.{AreProfilesIn, IsProfileFault}
 use Rattle.filterset_loading.specs.Files.{name_of}
 use Rattle.filterset_loading.specs.Workspaces.{IsPlatformsFault, IsWorkspaceFault, IsWorkspaceIn}
 use Rattle.filterset_loading.specs.declared.request.Asked.{Asked}
 use Rattle.filterset_loading.specs.declared.request.Asked.TheVariants.{Compare, Explanation, List as Listing, Overrides}
 use Rattle.filterset_loading.specs.declared.{request.WorkspaceRequest.WorkspaceRequest, fault.CommandFault.CommandFault}
-use Rattle.filterset_loading.specs.declared.profile.{KnownPlatforms.KnownPlatforms, ProfileRequest.ProfileRequest}
+use Rattle.filterset_loading.specs.declared.profile.{KnownProfiles.KnownProfiles, ProfileRequest.ProfileRequest}
 use Rattle.filterset_loading.specs.declared.{profile.ProfilesFile.ProfilesFile, workspace.Workspace.Workspace}
 use Rattle.filterset_entries.specs.declared.question.Question.TheVariants as questions
 
@@ -70,14 +70,14 @@ IsPlain packages given setting = (setting.graph.now ≡ packages) × IsGlobalOnl
     × (text_row setting.default.now ≡ unwrap_or given (default_row (codes "all()"))) × (setting.overrides.now ≡ [])
     × (setting.profiles.now ≡ [])
 
--- under the profile of this name: with the profiles of its lineage, the overrides of that in their order, and the default
+-- under the profile that is asked for: with the profiles of its lineage, the overrides of that in their order, and the default
 -- filter that is given or that follows from these
-abbrev pub AnswersProfile : (Setting → Ending → Text → Type 0) → List PackageMetadata → Option TextRow → Text
-    → List Profile → KnownGroups → ConfiguredTexts → KnownPlatforms → Ending → Text → Type 0
-AnswersProfile Answers packages given name profiles groups texts known ending text =
+abbrev pub AnswersProfile : (Setting → Ending → Text → Type 0) → List PackageMetadata → Option TextRow → KnownProfiles
+    → KnownGroups → ConfiguredTexts → Ending → Text → Type 0
+AnswersProfile Answers packages given known groups texts ending text =
     (lineage : List Profile) × (ranked : List RankedOverride) × (filter : defaults.DefaultFilter)
-    × Lineage profiles name lineage
-    × AllZip (IsRanked (facts_of known.host) (facts_of known.target)) (flat_map placed lineage) ranked
+    × Lineage known.profiles.items known.request.name.now lineage
+    × AllZip (IsRanked (facts_of known.platforms.host) (facts_of known.platforms.target)) (flat_map placed lineage) ranked
     × IsDefaultFilter ranked lineage filter × MatchResult (chosen texts given filter)
     (λ row. (setting : Setting) × (setting.graph.now ≡ packages) × (setting.groups.now ≡ groups)
     × (text_row setting.default.now ≡ row) × AllZip (IsEntryOf texts) ranked setting.overrides.now
@@ -88,11 +88,10 @@ AnswersProfile Answers packages given name profiles groups texts known ending te
 abbrev pub AnswersConfigured : (Text → Option Text) → (Setting → Ending → Text → Type 0) → List PackageMetadata
     → Option TextRow → ProfileRequest → BuildPlatforms → Ending → Text → Type 0
 AnswersConfigured content Answers packages given profile built ending text =
-    (file : ProfilesFile) × (groups : KnownGroups) × (known : KnownPlatforms) × (texts : ConfiguredTexts)
-    × AreProfilesIn (content profile.configuration.now) file
-    × AreGroups (map (λ s. string_bytes s) file.groups.items) groups × AreKnown content profile built known
+    (file : ProfilesFile) × (groups : KnownGroups) × (texts : ConfiguredTexts) × AreProfilesIn content profile built file
+    × AreGroups (map (λ s. string_bytes s) file.groups.items) groups
     × AreTextsOf (name_of profile.configuration.now) (string_bytes file.text) file.filtersets.items file.places texts
-    × AnswersProfile Answers packages given profile.name.now file.profiles.items groups texts known ending text
+    × AnswersProfile Answers packages given file.known groups texts ending text
 
 -- what is answered of the workspace that the files describe: under no profile, or under the one that is asked for, on the
 -- platforms of the list
@@ -119,9 +118,10 @@ abbrev pub given_text : Option TextEntry → Option (Bor Text)
 given_text given = option_map (λ entry. entry.text) given
 
 -- the setting has these parts
-abbrev pub HasParts : List PackageMetadata → KnownGroups → TextEntry → List OverrideEntry → List AskedProfile → Setting → Type 0
-HasParts packages groups default overrides profiles setting = (setting.graph.now ≡ packages) × (setting.groups.now ≡ groups)
-    × (setting.default.now ≡ default) × (setting.overrides.now ≡ overrides) × (setting.profiles.now ≡ profiles)
+abbrev pub HasParts : List PackageMetadata → KnownGroups → ProfileSetting → Setting → Type 0
+HasParts packages groups own setting = (setting.graph.now ≡ packages) × (setting.groups.now ≡ groups)
+    × (setting.default.now ≡ own.default) × (setting.overrides.now ≡ own.overrides.items)
+    × (setting.profiles.now ≡ own.profiles.items)
 
 -- what is wanted of a workspace: the answer, or what the tests say of texts
 abbrev pub AnswersWanted : Form → Wanted → Setting → List AskedBinary → Option Data → Ending → Text → Type 0

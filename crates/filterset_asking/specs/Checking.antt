@@ -13,7 +13,8 @@ use Rattle.filterset_configuration.specs.{Profiles.HasProfiles, Wrong.AreWrongVa
 use Rattle.filterset_configuration.specs.declared.{profiles.Profile.Profile, wrong.WrongValue.WrongValue}
 use Rattle.filterset_sources.specs.{Configurations.IsConfiguration, Configurations.RefusesConfiguration, Metadata.RefusesMetadata}
 use Rattle.filterset_sources.specs.declared.configuration.Configuration.{Configuration}
-use Rattle.filterset_loading.specs.Configurations.{HasNamed, IsConfigurationIn, IsRefusedProfile, LacksName}
+use Rattle.nextest_filtering.specs.Compiling.{packages_of}
+use Rattle.filterset_loading.specs.Configurations.{HasNamed, IsConfigurationIn, IsRefusedProfile, LacksProfile}
 use Rattle.filterset_loading.specs.Files.{BySource, IsFileFault, name_of}
 use Rattle.filterset_loading.specs.Workspaces.{KnownPackages, RefusesValue}
 use Rattle.filterset_loading.specs.declared.{request.CheckPaths.CheckPaths, fault.CommandFault.CommandFault}
@@ -43,15 +44,15 @@ HasAsked paths bytes (value ∷ values) = Unit {0}
 
 -- The wrong values of a configuration, then the faults of its filtersets and of other texts, then the warnings of the
 -- configuration's file; and if there are no wrong values, what the list of tests says of the texts, if one is requested.
-abbrev pub ChecksAll : (Text → Option Text) → Form → List PackageMetadata → Names → CheckPaths → ConfiguredTexts → List TextRow
-    → Ending → Text → Type 0
-ChecksAll content form packages names paths texts given ending text =
+abbrev pub ChecksAll : (Text → Option Text) → Form → Names → CheckPaths → ConfiguredTexts → List TextRow → Ending → Text
+    → Type 0
+ChecksAll content form names paths texts given ending text =
     (values : List WrongValue) × (own : ℕ) × (checked warned : Ending) × (front middle rest : Text)
     × AreWrongValues texts.file.now.text.now values
     × ChecksKnown names form texts.file (rows_in texts ++ given) values checked front
     × WarnsOfFile form texts own middle
-    × AnswersWarned content form (record { denies = paths.denies; before = own }) packages names.known_groups paths.configuration texts
-    (rows_in texts ++ given) (request_after values paths.warnings) warned rest
+    × AnswersWarned content form (record { denies = paths.denies; before = own }) (packages_of names.parse_context)
+    names.known_groups paths.configuration texts (rows_in texts ++ given) (request_after values paths.warnings) warned rest
     × HasAsked paths texts.file.now.text.now values
     × (text ≡ front ++ (middle ++ rest)) × (ending ≡ either_ending checked warned)
 
@@ -65,12 +66,12 @@ AnswersCheck content form paths given ending text =
     × AreTextsOf (file_name paths.configuration) bytes configuration.filtersets.items places texts
     × KnowsNames (is_some paths.metadata) packages (is_some paths.configuration)
     (map (λ s. string_bytes s) configuration.groups.items) names
-    × ChecksAll content form packages names paths texts given ending text
+    × ChecksAll content form names paths texts given ending text
 
 -- the configuration at a path, with these bytes, has no profile of the name
 abbrev pub LacksAsked : Text → Text → Text → CommandFault → Type 0
 LacksAsked path name bytes fault = IsRefusedProfile bytes path fault
-    ⊎ ((profiles : List Profile) × HasProfiles bytes profiles × LacksName path profiles name fault)
+    ⊎ ((profiles : List Profile) × HasProfiles bytes profiles × LacksProfile path name profiles fault)
 
 -- the list is not used, or there is no such profile
 abbrev pub IsUnchecked : (Text → Option Text) → (Text → Error → Type 0) → List PackageMetadata → CheckPaths → Text

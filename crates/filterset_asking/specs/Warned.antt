@@ -20,7 +20,7 @@ use Rattle.filterset_loading.specs.Configurations.{AreKnown, IsRefusedProfile, I
 use Rattle.filterset_loading.specs.Files.{IsFileFault}
 use Rattle.filterset_loading.specs.Workspaces.{IsListIn, IsPlatformsFault, RefusesList, RefusesValue}
 use Rattle.filterset_loading.specs.declared.fault.CommandFault.{CommandFault}
-use Rattle.filterset_loading.specs.declared.profile.{KnownPlatforms.KnownPlatforms, ProfileRequest.ProfileRequest}
+use Rattle.filterset_loading.specs.declared.profile.{KnownProfiles.KnownProfiles, ProfileRequest.ProfileRequest}
 use Rattle.filterset_loading.specs.declared.request.WarningRequest.{WarningRequest}
 use Rattle.filterset_loading.specs.declared.fault.FileRole.TheVariants as roles
 
@@ -30,9 +30,9 @@ use Rattle.filterset_loading.specs.declared.fault.FileRole.TheVariants as roles
 abbrev pub WarnsBy : (Text → Option Text) → (Setting → Ending → Text → Type 0) → List PackageMetadata → KnownGroups
     → ConfiguredTexts → ProfileRequest → Data → Ending → Text → Type 0
 WarnsBy content Answers packages groups texts profile list ending text =
-    (built : BuildPlatforms) × (profiles : List Profile) × (known : KnownPlatforms) × ArePlatforms list built
-    × HasProfiles texts.file.now.text.now profiles × AreKnown content profile built known
-    × AnswersProfile Answers packages None profile.name.now profiles groups texts known ending text
+    (built : BuildPlatforms) × (known : KnownProfiles) × ArePlatforms list built × (known.request ≡ profile)
+    × HasProfiles texts.file.now.text.now known.profiles.items × AreKnown content profile built known.platforms
+    × AnswersProfile Answers packages None known groups texts ending text
 
 -- by the list that is requested: under a profile of the configuration at this path, or without one
 abbrev pub AnswersListed : (Text → Option Text) → Form → WarningEnd → List PackageMetadata → KnownGroups → Option (Bor Text)
@@ -71,7 +71,7 @@ IsProfileUnused content fails bytes path list profile fault = IsPlatformsFault p
     ⊎ IsRefusedProfile bytes profile.configuration.now fault
     ⊎ IsSettingsFault content fails roles.HostCfg profile.host_cfg fault
     ⊎ IsSettingsFault content fails roles.TargetCfg profile.target_cfg fault
-    ⊎ ((profiles : List Profile) × HasProfiles bytes profiles × LacksProfile profile profiles fault)
+    ⊎ ((profiles : List Profile) × HasProfiles bytes profiles × LacksProfile profile.configuration.now profile.name.now profiles fault)
 
 -- the list is not used, or the profile of the configuration at this path is not
 abbrev pub IsListedFault : (Text → Option Text) → (Text → Error → Type 0) → List PackageMetadata → Option (Bor Text) → Text

@@ -10,7 +10,7 @@ ghost use Rattle.filterset_asking.specs.Asking.{AnswersAsked, AnswersIn, Answers
 ghost use Rattle.filterset_loading.specs.Files.{OrMemory, name_of};
 
 use crate::explaining::{candidate_of, find_binary, find_test, is_uncounted};
-use crate::profiled::ask_configured;
+use crate::profiled::{Given, ask_configured};
 use crate::setting::{WarnedTexts, warn_setting};
 use filterset_answers::{ask_workspace, asked_binaries, explain_filterset, explain_test_overrides};
 use filterset_display::Form;
@@ -131,29 +131,36 @@ fn answer_asked(
     }
 }
 
-/// Answers under a default filter, overrides and profiles. `kept` is nextest's list, if the answer has its shape.
+/// What a profile sets, with those that it falls back on.
+#[derive(Drop)]
+pub struct ProfileSetting<'t> {
+    pub default: TextEntry<'t>,
+    pub overrides: Vec<OverrideEntry<'t>>,
+    pub profiles: Vec<AskedProfile<'t>>,
+}
+
+/// Answers under what a profile sets. `kept` is nextest's list, if the answer has its shape.
 pub fn ask_under(
     alloc: Global,
     asked: &AskedWorkspace<'_>,
     groups: &KnownGroups,
-    default: &TextEntry<'_>,
-    overrides: &[OverrideEntry<'_>],
-    profiles: &[AskedProfile<'_>],
+    own: &ProfileSetting<'_>,
     kept: Option<Value>,
 ) -> Result<Answer, CommandFault>
-    requires kind { default.now.kind ≡ kinds.DefaultFilter }
+    requires kind { own.now.default.kind ≡ kinds.DefaultFilter }
     requires groups { IsKnown groups.now }
     ensures answered { IfOk result (λ answer. (setting : settings.Setting)
-        × HasParts asked.now.graph.now groups.now default.now overrides.now profiles.now setting
+        × HasParts asked.now.graph.now groups.now own.now setting
         × AnswersIn asked.now (option_map view kept) setting answer.ending (string_bytes answer.text)) }
     ensures missing { IfErr result (OrMemory (Lacks asked.now)) }
 {
     let binaries = asked_binaries(alloc, asked.suites)?;
     let binaries = binaries.as_slice();
+    let (overrides, profiles) = (own.overrides.as_slice(), own.profiles.as_slice());
     let setting = Setting {
         graph: asked.graph,
         groups,
-        default,
+        default: &own.default,
         overrides,
         profiles,
     };
@@ -180,7 +187,13 @@ pub fn ask_plainly(
 {
     let groups = KnownGroups::global_only(alloc);
     let default = default_entry(alloc, asked.default_filter.unwrap_or("all()"))?;
-    ask_under(alloc, asked, &groups, &default, &[], &[], kept)
+    let (overrides, profiles) = (Vec::new(alloc), Vec::new(alloc));
+    let own = ProfileSetting {
+        default,
+        overrides,
+        profiles,
+    };
+    ask_under(alloc, asked, &groups, &own, kept)
 }
 
 /// Makes the entry of the default filter that is given, if one is.
@@ -220,9 +233,10 @@ pub fn ask<F: FileSource>(
         None => ask_plainly(alloc, &asked, kept_of(request.form, value)),
         Some(profile) => {
             let built = platforms_of(alloc, request.paths.list, &value)?;
-            let given = given_default(alloc, request)?;
+            let default = given_default(alloc, request)?;
             let kept = kept_of(request.form, value);
-            ask_configured(alloc, files, &asked, &profile, built, given, kept)
+            let given = Given { default, kept };
+            ask_configured(alloc, files, &asked, &profile, built, given)
         }
     }
 }

@@ -1,9 +1,8 @@
 //! The command `check`: the faults of texts and of a configuration's filtersets, by the names that files give.
 ghost use Rattle.std.specs.Prelude.{◌≡◌, ◌++◌, IfErr, IfOk, IsSomeAnd, OnOk, map, string_bytes};
 ghost use Rattle.filterset_entries.specs.{Checked.text_row, Entries.rows_in};
-ghost use Rattle.nextest_filtering.specs.Groups.{IsKnown};
-ghost use Rattle.toml.specs.View.{view};
-ghost use Rattle.filterset_sources.specs.Configurations.{IsFile, RefusesConfiguration};
+ghost use Rattle.nextest_filtering.specs.{Compiling.packages_of, Groups.IsKnown};
+ghost use Rattle.filterset_sources.specs.Configurations.{RefusesConfiguration};
 ghost use Rattle.filterset_asking.specs.Checking.{AnswersCheck, ChecksAll, ChecksKnown, HasAsked, IsCheckFault, IsUnchecked, KnownConfiguration, LacksAsked, file_name};
 ghost use Rattle.filterset_asking.specs.Warned.{request_after};
 ghost use Rattle.filterset_loading.specs.Files.{BySource, IsFileFault, OrMemory};
@@ -15,16 +14,14 @@ use filterset_answers::check;
 use filterset_configuration::{WrongValue, find_wrong_values};
 use filterset_display::{Form, Source};
 use filterset_entries::{
-    Answer, ConfiguredTexts, Names, TextEntry, WarningEnd, configured_entries, configured_texts,
+    Answer, Names, TextEntry, WarningEnd, configured_entries, configured_texts,
 };
-use filterset_graph::PackageGraph;
 use filterset_loading::{
     CheckPaths, CommandFault, ConfigurationFile, FileRole, FileSource, WarningRequest,
-    known_packages, lineage_of, name_of, profiles_in, read_configuration_file, request_of,
+    known_packages, lineage_of, name_of, profiles_in, read_configuration_file,
 };
 use filterset_sources::ParsedText;
-use std::alloc::{AllocError, Global};
-use toml::Value;
+use std::alloc::Global;
 
 /// Reads the configuration. Without a file it has no filtersets and no groups.
 fn known_configuration<F: FileSource>(
@@ -81,48 +78,50 @@ fn find_asked(
         return Ok(());
     };
     let profiles = profiles_in(alloc, path, parsed)?;
-    let request = request_of(path, paths.profile);
-    match lineage_of(alloc, &request, profiles.as_slice()) {
+    match lineage_of(alloc, path, paths.profile, profiles.as_slice()) {
         Ok(_) => Ok(()),
         Err(fault) => Err(fault),
     }
 }
 
-/// Checks the values of a configuration, then its filtersets, and after them other texts; then warns of the configuration, and
-/// of all these texts.
+/// The texts that are given to check, and how answers are written.
+#[derive(Drop)]
+struct GivenTexts<'c> {
+    form: Form,
+    entries: Vec<TextEntry<'c>>,
+}
+
+/// Checks a configuration's values, its filtersets and other texts, and warns of the configuration, then of all texts.
 fn check_all<'c, F: FileSource>(
     alloc: Global,
     files: &F,
-    form: Form,
     paths: CheckPaths<'c>,
-    graph: &'c PackageGraph,
-    names: &'c Names<'_>,
-    texts: ConfiguredTexts<'c>,
-    file: &'c Value,
-    given: Vec<TextEntry<'c>>,
+    names: &'c Names<'c>,
+    configured: CheckedFile<'c>,
+    given: GivenTexts<'c>,
 ) -> Result<Answer, CommandFault>
     requires groups { IsKnown names.now.known_groups }
-    requires file { IsFile texts.file.now.text.now (view file.now) }
-    ensures answered { IfOk result (λ answer. ChecksAll (F.content files.now) form graph.now names.now paths.entry
-        texts.entry (map text_row given.entry.items) answer.ending (string_bytes answer.text)) }
-    ensures refused { IfErr result (OrMemory (IsUnchecked (F.content files.now) (F.fails files.now) graph.now
-        paths.entry texts.entry.file.now.text.now)) }
+    ensures answered { IfOk result (λ answer. ChecksAll (F.content files.now) given.entry.form names.entry.now paths.entry
+        configured.entry.texts (map text_row given.entry.entries.items) answer.ending (string_bytes answer.text)) }
+    ensures refused { IfErr result (OrMemory (IsUnchecked (F.content files.now) (F.fails files.now)
+        (packages_of names.entry.now.parse_context) paths.entry configured.entry.texts.file.now.text.now)) }
 {
-    let parsed = ParsedText {
-        text: texts.file.text,
-        file,
-    };
-    let mut given = given;
+    let CheckedFile { texts, file } = configured;
+    let text = texts.file.text;
+    let parsed = ParsedText { text, file };
+    let GivenTexts {
+        form,
+        entries: mut given,
+    } = given;
     let mut entries = configured_entries(alloc, texts)?;
     entries.append(&mut given)?;
-    let own = warn_configuration(alloc, form, CheckedFile { texts, file })?;
+    let own = warn_configuration(alloc, form, configured)?;
     let checked_texts = CheckedTexts {
         form,
-        graph,
+        graph: names.parse_context.graph(),
         groups: &names.known_groups,
         path: paths.configuration,
-        configured: texts,
-        file,
+        configured,
         entries: entries.as_slice(),
         end: WarningEnd {
             denies: paths.denies,
@@ -169,7 +168,8 @@ pub fn check_texts<F: FileSource>(
     let source = Source::new(alloc, file_name(paths.configuration), text.as_str())?;
     let texts = configured_texts(&source, configuration.filtersets.as_slice(), &places);
     let file = &configuration.file;
-    check_all(
-        alloc, files, form, *paths, &graph, &names, texts, file, given,
-    )
+    let configured = CheckedFile { texts, file };
+    let entries = given;
+    let given = GivenTexts { form, entries };
+    check_all(alloc, files, *paths, &names, configured, given)
 }

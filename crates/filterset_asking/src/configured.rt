@@ -29,8 +29,6 @@ pub struct FileWarnings {
 }
 
 /// Writes what nextest does not read of a configuration.
-///
-/// Returns an error only if out of memory.
 pub fn warn_configuration(
     alloc: Global,
     form: Form,

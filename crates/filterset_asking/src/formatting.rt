@@ -104,8 +104,6 @@ fn rewrite_texts(
 }
 
 /// Writes texts as they print, a line each. If some do not parse, it writes their faults instead. Texts are numbered from 1.
-///
-/// Returns an error only if out of memory.
 pub fn format_texts(
     alloc: Global,
     form: Form,
@@ -118,8 +116,6 @@ pub fn format_texts(
 }
 
 /// Writes texts without what changes nothing for every test, a line each, or their faults, as [`format_texts`] does.
-///
-/// Returns an error only if out of memory.
 pub fn simplify_texts(
     alloc: Global,
     form: Form,

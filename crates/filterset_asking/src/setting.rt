@@ -85,8 +85,6 @@ fn end_warnings(
 }
 
 /// Makes the answer that there are so many warnings, or an empty one if there are none.
-///
-/// Returns an error only if out of memory.
 pub fn count_warnings(alloc: Global, form: Form, end: WarningEnd) -> Result<Answer, AllocError>
     ensures text { IfOk result (λ answer.
         string_bytes answer.text ≡ (if end.before == 0 then [] else summary form 0 end.before)) }
@@ -141,8 +139,6 @@ fn warn_by<'s>(
 
 /// Writes the warnings of texts under a setting, by the tests of these binaries, and for people a summary. If a text of the
 /// setting has faults, it writes nothing.
-///
-/// Returns an error only if out of memory.
 pub fn warn_setting(
     alloc: Global,
     texts: WarnedTexts<'_>,

@@ -59,8 +59,6 @@ fn push_text(
 
 /// Writes the warnings of texts, which are numbered from 1, and returns how many: of each predicate that matches no test, and
 /// of each operand in whose place `all()` or `none()` changes nothing. A text with faults has no warnings.
-///
-/// Returns an error only if out of memory.
 pub fn warn_texts(
     output: &mut String,
     alloc: Global,

@@ -1,8 +1,6 @@
 //! The warnings of `check`: what a list of tests says of the texts that are checked.
 ghost use Rattle.std.specs.Prelude.{◌≡◌, ◌⊎◌, ◌++◌, IfErr, IfOk, IsSomeAnd, None, map, string_bytes};
 ghost use Rattle.serde_json.specs.View.{view};
-ghost use Rattle.toml.specs.View as parsed;
-ghost use Rattle.filterset_sources.specs.Configurations.{IsFile};
 ghost use Rattle.filterset_entries.specs.Checked.{text_row};
 ghost use Rattle.nextest_filtering.specs.Groups.{IsKnown};
 ghost use Rattle.filterset_asking.specs.Asking.{AnswersIn, Lacks};
@@ -10,14 +8,15 @@ ghost use Rattle.filterset_asking.specs.Warned.{AnswersListed, AnswersWarned, Is
 ghost use Rattle.filterset_loading.specs.{Files.OrMemory, Configurations.profile_at};
 
 use crate::asking::{AskedWorkspace, Wanted, ask_plainly};
-use crate::profiled::ask_profile;
+use crate::configured::CheckedFile;
+use crate::profiled::{Given, ask_profile};
 use crate::setting::count_warnings;
 use filterset_display::Form;
-use filterset_entries::{Answer, ConfiguredTexts, Ending, TextEntry, WarningEnd};
+use filterset_entries::{Answer, Ending, TextEntry, WarningEnd};
 use filterset_graph::PackageGraph;
 use filterset_loading::{
-    CommandFault, FileSource, ProfileRequest, WarningRequest, platforms_of, profiles_in,
-    read_facts, read_list,
+    CommandFault, FileSource, KnownProfiles, ProfileRequest, WarningRequest, platforms_of,
+    profiles_in, read_facts, read_list,
 };
 use filterset_sources::ParsedText;
 use nextest_filtering::KnownGroups;
@@ -32,14 +31,11 @@ pub struct CheckedTexts<'c> {
     pub groups: &'c KnownGroups,
     /// The path of the configuration, if there is one.
     pub path: Option<&'c str>,
-    /// The filtersets of the configuration with their file, and what its text was parsed as.
-    pub configured: ConfiguredTexts<'c>,
-    pub file: &'c toml::Value,
+    pub configured: CheckedFile<'c>,
     /// The texts: those of the configuration, and after them the others.
     pub entries: &'c [TextEntry<'c>],
     /// How many warnings come before those of the list, and whether any are denied.
     pub end: WarningEnd,
-    ghost is_file: { IsFile configured.file.now.text.now (parsed.view file.now) },
 }
 
 /// Answers under a profile of the configuration. `value` is nextest's list.
@@ -53,28 +49,25 @@ fn warn_configured<F: FileSource>(
 ) -> Result<Answer, CommandFault>
     requires { IsKnown texts.now.groups.now }
     ensures answered { IfOk result (λ answer. WarnsBy (F.content files.now) (AnswersIn asked.now None) asked.now.graph.now
-        texts.now.groups.now texts.now.configured profile.now (view value.now)
+        texts.now.groups.now texts.now.configured.texts profile.now (view value.now)
         answer.ending (string_bytes answer.text)) }
     ensures refused { IfErr result (OrMemory (λ fault. Lacks asked.now fault
-        ⊎ IsProfileUnused (F.content files.now) (F.fails files.now) texts.now.configured.file.now.text.now
+        ⊎ IsProfileUnused (F.content files.now) (F.fails files.now) texts.now.configured.texts.file.now.text.now
         asked.now.list.now (view value.now) profile.now fault)) }
 {
     let built = platforms_of(alloc, asked.list, value)?;
-    let (text, file) = (texts.configured.file.text, texts.file);
-    let profiles = profiles_in(alloc, profile.configuration, ParsedText { text, file })?;
-    let known = read_facts(alloc, files, profile, built)?;
-    let (profiles, own) = (profiles.as_slice(), texts.configured);
-    ask_profile(
-        alloc,
-        asked,
-        profile,
-        profiles,
-        texts.groups,
-        own,
-        None,
-        &known,
-        None,
-    )
+    let CheckedFile { texts: own, file } = texts.configured;
+    let text = own.file.text;
+    let known = KnownProfiles {
+        request: *profile,
+        profiles: profiles_in(alloc, profile.configuration, ParsedText { text, file })?,
+        platforms: read_facts(alloc, files, profile, built)?,
+    };
+    let given = Given {
+        default: None,
+        kept: None,
+    };
+    ask_profile(alloc, asked, &known, texts.groups, own, given)
 }
 
 /// Answers by the list that is requested: under the profile of the configuration, if there is one.
@@ -86,10 +79,10 @@ fn warn_listed<'x, F: FileSource>(
 ) -> Result<Answer, CommandFault>
     requires { IsKnown texts.now.groups.now }
     ensures answered { IfOk result (λ answer. AnswersListed (F.content files.now) texts.now.form texts.now.end
-        texts.now.graph.now texts.now.groups.now texts.now.path texts.now.configured (map text_row texts.now.entries.now)
+        texts.now.graph.now texts.now.groups.now texts.now.path texts.now.configured.texts (map text_row texts.now.entries.now)
         request.now answer.ending (string_bytes answer.text)) }
     ensures refused { IfErr result (OrMemory (IsListedFault (F.content files.now) (F.fails files.now) texts.now.graph.now
-        texts.now.path texts.now.configured.file.now.text.now request.now)) }
+        texts.now.path texts.now.configured.texts.file.now.text.now request.now)) }
 {
     let (path, run_ignored) = (request.paths.list, request.paths.run_ignored);
     let (list, value) = read_list(alloc, files, path, texts.graph, run_ignored)?;
@@ -122,10 +115,10 @@ pub fn warn_checked<'x, F: FileSource>(
 ) -> Result<Answer, CommandFault>
     requires { IsKnown texts.now.groups.now }
     ensures answered { IfOk result (λ answer. AnswersWarned (F.content files.now) texts.now.form texts.now.end
-        texts.now.graph.now texts.now.groups.now texts.now.path texts.now.configured (map text_row texts.now.entries.now)
+        texts.now.graph.now texts.now.groups.now texts.now.path texts.now.configured.texts (map text_row texts.now.entries.now)
         request.entry answer.ending (string_bytes answer.text)) }
     ensures refused { IfErr result (OrMemory (λ fault. IsSomeAnd request.entry (λ asked. IsListedFault (F.content files.now)
-        (F.fails files.now) texts.now.graph.now texts.now.path texts.now.configured.file.now.text.now asked fault))) }
+        (F.fails files.now) texts.now.graph.now texts.now.path texts.now.configured.texts.file.now.text.now asked fault))) }
 {
     match request {
         Some(request) => warn_listed(alloc, files, &request, texts),

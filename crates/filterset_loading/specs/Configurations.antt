@@ -27,14 +27,6 @@ abbrev pub IsConfigurationIn : Option Text → Text → Configuration → List (
 IsConfigurationIn content bytes configuration places = IsContent content bytes × IsConfiguration bytes configuration
     × ArePlaces bytes (configured_rows configuration.filtersets.items) places
 
--- the file has these profiles
-abbrev pub AreProfilesIn : Option Text → ProfilesFile → Type 0
-AreProfilesIn content file = let bytes = string_bytes file.text in (configuration : Configuration)
-    × IsConfigurationIn content bytes configuration file.places.places.items
-    × (file.filtersets.items ≡ configuration.filtersets.items)
-    × (file.groups.items ≡ configuration.groups.items)
-    × HasProfiles bytes file.profiles.items
-
 -- what `rustc` sets for a platform, as a file says, if there is one
 abbrev pub AreSettings : (Text → Option Text) → Option (Bor Text) → Option (Vec Cfg Global) → Type 0
 AreSettings content None settings = settings ≡ None
@@ -45,6 +37,14 @@ AreSettings content (Some path) settings = IsSomeAnd settings (λ all. (text : T
 abbrev pub AreKnown : (Text → Option Text) → ProfileRequest → BuildPlatforms → KnownPlatforms → Type 0
 AreKnown content request built known = (known.host.triple ≡ built.host) × (known.target.triple ≡ built.target)
     × AreSettings content request.host_cfg known.host.cfg × AreSettings content request.target_cfg known.target.cfg
+
+-- the configuration has these profiles, and so much is known of the platforms
+abbrev pub AreProfilesIn : (Text → Option Text) → ProfileRequest → BuildPlatforms → ProfilesFile → Type 0
+AreProfilesIn content request built file = let bytes = string_bytes file.text in (configuration : Configuration)
+    × IsConfigurationIn (content request.configuration.now) bytes configuration file.places.places.items
+    × (file.filtersets.items ≡ configuration.filtersets.items)
+    × (file.groups.items ≡ configuration.groups.items) × (file.known.request ≡ request)
+    × HasProfiles bytes file.known.profiles.items × AreKnown content request built file.known.platforms
 
 -- the text has no profiles that are right
 abbrev pub RefusesProfiles : Text → FileFault → Type 0
@@ -65,32 +65,32 @@ abbrev pub IsSettingsFault : (Text → Option Text) → (Text → Error → Type
 IsSettingsFault content fails role path fault =
     IsSomeAnd path (λ p. IsFileFault content fails role RefusesCfg p.now fault)
 
--- the fault names the file, says why there is no such profile, and names the profiles that there are
-abbrev pub LacksProfile : ProfileRequest → List Profile → CommandFault → Type 0
-LacksProfile request profiles (faults.Profile file fault known) =
-    (string_bytes file ≡ name_of request.configuration.now)
-    × IsLineageFault profiles request.name.now fault × (fault ≢ lineages.OutOfMemory alloc_error)
+-- the configuration at a path lacks the profile of a name, or one that it falls back on: the fault names the file, says why,
+-- and names the profiles that there are
+abbrev pub LacksProfile : Text → Text → List Profile → CommandFault → Type 0
+LacksProfile configuration name profiles (faults.Profile file fault known) =
+    (string_bytes file ≡ name_of configuration)
+    × IsLineageFault profiles name fault × (fault ≢ lineages.OutOfMemory alloc_error)
     × (map (λ s. string_bytes s) known.items ≡ map (λ p. string_bytes p.name) profiles)
-LacksProfile request profiles _ = ⊥
-
--- the configuration at a path lacks the profile of a name
-abbrev pub LacksName : Text → List Profile → Text → CommandFault → Type 0
-LacksName configuration profiles name fault = (asked : ProfileRequest) × (asked.configuration.now ≡ configuration)
-    × (asked.name.now ≡ name) × LacksProfile asked profiles fault
+LacksProfile configuration name profiles _ = ⊥
 
 -- the configuration with these bytes has a profile of the name, which falls back on these
 abbrev pub HasNamed : Text → Text → Type 0
 HasNamed bytes name =
     (profiles : List Profile) × (chain : List Profile) × HasProfiles bytes profiles × Lineage profiles name chain
 
--- what keeps a profile from being used: a file that is not, or a configuration without the profile
-abbrev pub IsProfileFault : (Text → Option Text) → (Text → Error → Type 0) → ProfileRequest → CommandFault → Type 0
-IsProfileFault content fails request fault =
+-- a file of a profile is not used
+abbrev pub IsUnread : (Text → Option Text) → (Text → Error → Type 0) → ProfileRequest → CommandFault → Type 0
+IsUnread content fails request fault =
     IsFileFault content fails roles.Configuration RefusesFile request.configuration.now fault
     ⊎ IsSettingsFault content fails roles.HostCfg request.host_cfg fault
     ⊎ IsSettingsFault content fails roles.TargetCfg request.target_cfg fault
-    ⊎ ((file : ProfilesFile) × AreProfilesIn (content request.configuration.now) file
-    × LacksProfile request file.profiles.items fault)
+
+-- what keeps a profile from being used: a file that is not, or a configuration without the profile
+abbrev pub IsProfileFault : (Text → Option Text) → (Text → Error → Type 0) → ProfileRequest → CommandFault → Type 0
+IsProfileFault content fails request fault = IsUnread content fails request fault
+    ⊎ ((built : BuildPlatforms) × (file : ProfilesFile) × AreProfilesIn content request built file
+    × LacksProfile request.configuration.now request.name.now file.known.profiles.items fault)
 
 -- the text of the file at this path has no profiles that are right
 abbrev pub IsRefusedProfile : Text → Text → CommandFault → Type 0

@@ -21,8 +21,8 @@ pub use configuration::{ConfigurationFile, read_configuration_file};
 pub use fault::{CommandFault, FileFault, FileRole};
 pub use files::{FileSource, HostFiles, INPUT_NAME, WithInput, name_of, read_input};
 pub use profile::{
-    KnownPlatforms, ProfileRequest, ProfilesFile, lineage_of, profiles_in, read_facts,
-    read_profiles_file, request_of,
+    KnownPlatforms, KnownProfiles, ProfileRequest, ProfilesFile, lineage_of, profiles_in,
+    read_facts, read_profiles_file,
 };
 pub use request::{
     Asked, CheckPaths, Decision, DecisionRequest, Request, Task, Texts, WarningRequest,

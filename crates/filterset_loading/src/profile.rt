@@ -1,8 +1,8 @@
 //! What files say of the profiles of a configuration, and of the platforms by which their overrides apply.
 ghost use Rattle.std.specs.Prelude.{◌≡◌, ◌⊎◌, IfErr, IfOk, map, string_bytes};
 ghost use Rattle.filterset_configuration.specs.{Lineages.IsLineageFault, Lineages.Lineage, Profiles.HasProfiles};
-ghost use Rattle.filterset_loading.specs.Configurations.{AreKnown, AreProfilesIn, AreSettings, IsRefusedProfile, IsSettingsFault, LacksProfile, RefusesFile};
-ghost use Rattle.filterset_loading.specs.Files.{IsFileFault, OrMemory};
+ghost use Rattle.filterset_loading.specs.Configurations.{AreKnown, AreProfilesIn, AreSettings, IsRefusedProfile, IsSettingsFault, IsUnread, LacksProfile};
+ghost use Rattle.filterset_loading.specs.Files.{OrMemory};
 
 use crate::configuration::{ConfigurationFile, read_configuration_file};
 use crate::fault::{CommandFault, FileFault, FileRole};
@@ -28,21 +28,29 @@ pub struct ProfileRequest<'w> {
     pub host_cfg: Option<&'w str>,
 }
 
-/// The profiles of a configuration, with its text, its filtersets and their places in that, and the names of its groups.
-#[derive(Drop)]
-pub struct ProfilesFile {
-    pub text: String,
-    pub filtersets: Vec<ConfiguredFilterset>,
-    pub places: Places,
-    pub groups: Vec<String>,
-    pub profiles: Vec<Profile>,
-}
-
 /// What is known of the platforms of a build.
 #[derive(Drop)]
 pub struct KnownPlatforms {
     pub host: PlatformFacts,
     pub target: PlatformFacts,
+}
+
+/// The profile that is asked for, the profiles of its configuration, and what is known of the platforms of a build.
+#[derive(Drop)]
+pub struct KnownProfiles<'w> {
+    pub request: ProfileRequest<'w>,
+    pub profiles: Vec<Profile>,
+    pub platforms: KnownPlatforms,
+}
+
+/// The profiles of a configuration, with its text, its filtersets and their places in that, and the names of its groups.
+#[derive(Drop)]
+pub struct ProfilesFile<'w> {
+    pub text: String,
+    pub filtersets: Vec<ConfiguredFilterset>,
+    pub places: Places,
+    pub groups: Vec<String>,
+    pub known: KnownProfiles<'w>,
 }
 
 /// Reads the profiles of the configuration at a path.
@@ -62,40 +70,6 @@ pub fn profiles_in(
         }
         Err(ProfileRefusal::OutOfMemory(refused)) => Err(CommandFault::from(refused)),
     }
-}
-
-/// Reads the profiles of the configuration at a path.
-pub fn read_profiles_file<F: FileSource>(
-    alloc: Global,
-    files: &F,
-    path: &str,
-) -> Result<ProfilesFile, CommandFault>
-    ensures read { IfOk result (AreProfilesIn (F.content files.now path.now)) }
-    ensures refused { IfErr result (OrMemory (IsFileFault (F.content files.now) (F.fails files.now)
-        FileRole.Configuration RefusesFile path.now)) }
-{
-    let ConfigurationFile {
-        text,
-        configuration,
-        places,
-    } = read_configuration_file(alloc, files, path)?;
-    let Configuration {
-        filtersets,
-        groups,
-        file,
-    } = configuration;
-    let parsed = ParsedText {
-        text: text.as_str(),
-        file: &file,
-    };
-    let profiles = profiles_in(alloc, path, parsed)?;
-    Ok(ProfilesFile {
-        text,
-        filtersets,
-        places,
-        groups,
-        profiles,
-    })
 }
 
 /// Reads what `rustc` sets for a platform, if there is a file that says so.
@@ -148,6 +122,44 @@ pub fn read_facts<F: FileSource>(
     })
 }
 
+/// Reads the profiles of a configuration, and what is known of the platforms of a build.
+pub fn read_profiles_file<'w, F: FileSource>(
+    alloc: Global,
+    files: &F,
+    request: &ProfileRequest<'w>,
+    built: BuildPlatforms,
+) -> Result<ProfilesFile<'w>, CommandFault>
+    ensures read { IfOk result (AreProfilesIn (F.content files.now) request.now built) }
+    ensures refused { IfErr result (OrMemory (IsUnread (F.content files.now) (F.fails files.now) request.now)) }
+{
+    let ConfigurationFile {
+        text,
+        configuration,
+        places,
+    } = read_configuration_file(alloc, files, request.configuration)?;
+    let Configuration {
+        filtersets,
+        groups,
+        file,
+    } = configuration;
+    let parsed = ParsedText {
+        text: text.as_str(),
+        file: &file,
+    };
+    let known = KnownProfiles {
+        request: *request,
+        profiles: profiles_in(alloc, request.configuration, parsed)?,
+        platforms: read_facts(alloc, files, request, built)?,
+    };
+    Ok(ProfilesFile {
+        text,
+        filtersets,
+        places,
+        groups,
+        known,
+    })
+}
+
 /// Copies the names of profiles.
 fn names_of(alloc: Global, profiles: &[Profile]) -> Result<Vec<String>, AllocError>
     ensures { IfOk result (λ names. map (λ s. string_bytes s) names.items ≡ map (λ p. string_bytes p.name) profiles.now) }
@@ -159,35 +171,23 @@ fn names_of(alloc: Global, profiles: &[Profile]) -> Result<Vec<String>, AllocErr
     Ok(names)
 }
 
-/// Returns the profile that is asked for, and those that it falls back on.
+/// Returns the profile with this name of the configuration at a path, and those that it falls back on.
 pub fn lineage_of<'p>(
     alloc: Global,
-    request: &ProfileRequest<'_>,
+    configuration: &str,
+    name: &str,
     profiles: &'p [Profile],
 ) -> Result<Vec<&'p Profile>, CommandFault>
-    ensures found { IfOk result (λ chain. Lineage profiles.entry.now request.now.name.now (map (λ p. p.now) chain.items)) }
-    ensures missing { IfErr result (OrMemory (LacksProfile request.now profiles.entry.now)) }
+    ensures found { IfOk result (λ chain. Lineage profiles.entry.now name.now (map (λ p. p.now) chain.items)) }
+    ensures missing { IfErr result (OrMemory (LacksProfile configuration.now name.now profiles.entry.now)) }
 {
-    match lineage(alloc, profiles, request.name) {
+    match lineage(alloc, profiles, name) {
         Ok(chain) => Ok(chain),
         Err(LineageFault::OutOfMemory(refused)) => Err(CommandFault::from(refused)),
         Err(fault) => Err(CommandFault::Profile {
-            file: String::from_str(alloc, name_of(request.configuration))?,
+            file: String::from_str(alloc, name_of(configuration))?,
             fault,
             known: names_of(alloc, profiles)?,
         }),
-    }
-}
-
-/// Returns the profile with this name of the configuration at a path.
-pub fn request_of<'n>(configuration: &'n str, name: &'n str) -> ProfileRequest<'n>
-    ensures configuration { result.configuration.now ≡ configuration.entry.now }
-    ensures name { result.name.now ≡ name.entry.now }
-{
-    ProfileRequest {
-        configuration,
-        name,
-        target_cfg: None,
-        host_cfg: None,
     }
 }

@@ -21,11 +21,11 @@ use Rattle.nextest_filtering.specs.declared.compile.context.KnownGroups.{KnownGr
 use Rattle.filterset_verdicts.specs.Verdicts.{AnswersQuestion, question_rows}
 use Rattle.filterset_verdicts.specs.declared.answering.TextQuestion.{TextQuestion}
 use Rattle.filterset_verdicts.specs.declared.naming.ResolvedEntries.{ResolvedEntries}
-use Rattle.filterset_loading.specs.Configurations.{AreKnown, AreProfilesIn, IsSettingsFault, LacksName, LacksProfile, RefusesFile}
+use Rattle.filterset_loading.specs.Configurations.{AreProfilesIn, IsUnread, LacksProfile}
 use Rattle.filterset_loading.specs.Workspaces.{KnownPackages, IsListIn, IsPlatformsFault, RefusesList, RefusesValue}
 use Rattle.filterset_loading.specs.Files.{IsFileFault, name_of}
 use Rattle.filterset_loading.specs.declared.{request.DecisionRequest.DecisionRequest, fault.CommandFault.CommandFault}
-use Rattle.filterset_loading.specs.declared.profile.{KnownPlatforms.KnownPlatforms, ProfileRequest.ProfileRequest}
+use Rattle.filterset_loading.specs.declared.profile.{KnownProfiles.KnownProfiles, ProfileRequest.ProfileRequest}
 use Rattle.filterset_loading.specs.declared.{profile.ProfilesFile.ProfilesFile, request.Decision.Decision}
 use Rattle.filterset_loading.specs.declared.request.Decision.TheVariants.{Cover, Disjoint, Partition, Same}
 use Rattle.filterset_deciding.specs.declared.question.Question.{Question}
@@ -67,42 +67,33 @@ AnswersRows request packages suites groups default rows ending text = (setting :
 
 -- ---- profiles by name
 
--- the profiles of a configuration, what is known of the platforms, and the texts of the file
-pub record Naming : Type 0 where
-  pub profiles : List Profile
-  pub known : KnownPlatforms
-  pub texts : ConfiguredTexts
-
-abbrev pub naming_of : List Profile → KnownPlatforms → ConfiguredTexts → Naming
-naming_of profiles known texts = record { profiles = profiles; known = known; texts = texts }
-
 -- the default filter of the profile with this name; or the path by which it is not known
-abbrev pub IsFilterOf : Naming → Text → Result TextRow Text → Type 0
-IsFilterOf named name outcome = (lineage : List Profile) × (ranked : List RankedOverride) × (filter : DefaultFilter)
-    × Lineage named.profiles name lineage
-    × AllZip (IsRanked (facts_of named.known.host) (facts_of named.known.target)) (flat_map placed lineage) ranked
-    × IsDefaultFilter ranked lineage filter × (chosen named.texts None filter ≡ outcome)
+abbrev pub IsFilterOf : KnownProfiles → ConfiguredTexts → Text → Result TextRow Text → Type 0
+IsFilterOf known texts name outcome = (lineage : List Profile) × (ranked : List RankedOverride) × (filter : DefaultFilter)
+    × Lineage known.profiles.items name lineage
+    × AllZip (IsRanked (facts_of known.platforms.host) (facts_of known.platforms.target)) (flat_map placed lineage) ranked
+    × IsDefaultFilter ranked lineage filter × (chosen texts None filter ≡ outcome)
 
 -- `@ci` stands for the default filter of the profile `ci`, and every other text for itself
-abbrev pub ResolvesTo : Naming → TextRow → Result TextRow Text → Type 0
-ResolvesTo named row outcome =
-    ((name : Text) × (row.text ≡ codes "@" ++ name) × IsFilterOf named name outcome)
+abbrev pub ResolvesTo : KnownProfiles → ConfiguredTexts → TextRow → Result TextRow Text → Type 0
+ResolvesTo known texts row outcome =
+    ((name : Text) × (row.text ≡ codes "@" ++ name) × IsFilterOf known texts name outcome)
     ⊎ (((name : Text) → row.text ≢ codes "@" ++ name) × (outcome ≡ Ok row))
 
 -- the default filter that is given, or else that of the profile
-abbrev pub IsDefaultRow : Naming → Text → Option TextRow → Result TextRow Text → Type 0
-IsDefaultRow named profile None outcome = IsFilterOf named profile outcome
-IsDefaultRow named profile (Some row) outcome = ResolvesTo named row outcome
+abbrev pub IsDefaultRow : KnownProfiles → ConfiguredTexts → Option TextRow → Result TextRow Text → Type 0
+IsDefaultRow known texts None outcome = IsFilterOf known texts known.request.name.now outcome
+IsDefaultRow known texts (Some row) outcome = ResolvesTo known texts row outcome
 
 -- under the default filters of profiles; or one that the question depends on is not known, by the platform of this path
-abbrev pub AnswersNamed : DecisionRequest → List PackageMetadata → List Suite → KnownGroups → Naming → Text → Ending → Text
-    → Type 0
-AnswersNamed request packages suites groups named profile ending text =
-    ((default : TextRow) × (rows : List TextRow) × IsDefaultRow named profile (given_row request.default_filter) (Ok default)
-    × AllZip (λ row own. ResolvesTo named row (Ok own)) (request_rows request) rows
+abbrev pub AnswersNamed : DecisionRequest → List PackageMetadata → List Suite → KnownGroups → KnownProfiles
+    → ConfiguredTexts → Ending → Text → Type 0
+AnswersNamed request packages suites groups known texts ending text =
+    ((default : TextRow) × (rows : List TextRow) × IsDefaultRow known texts (given_row request.default_filter) (Ok default)
+    × AllZip (λ row own. ResolvesTo known texts row (Ok own)) (request_rows request) rows
     × AnswersRows request packages suites groups default rows ending text)
-    ⊎ ((path : Text) × (IsDefaultRow named profile (given_row request.default_filter) (Err path)
-    ⊎ ((row : TextRow) × Contains (request_rows request) row × ResolvesTo named row (Err path)))
+    ⊎ ((path : Text) × (IsDefaultRow known texts (given_row request.default_filter) (Err path)
+    ⊎ ((row : TextRow) × Contains (request_rows request) row × ResolvesTo known texts row (Err path)))
     × AnswersUnknown path ending text)
 
 -- the platforms of a build of which nothing is known
@@ -113,14 +104,10 @@ nowhere = record { host = None; target = None }
 abbrev pub AnswersProfiles : (Text → Option Text) → DecisionRequest → List PackageMetadata → List Suite
     → ProfileRequest → BuildPlatforms → Ending → Text → Type 0
 AnswersProfiles content request packages suites profile built ending text =
-    (file : ProfilesFile) × (groups : KnownGroups) × (named : Naming)
-    × AreProfilesIn (content profile.configuration.now) file
+    (file : ProfilesFile) × (groups : KnownGroups) × (texts : ConfiguredTexts) × AreProfilesIn content profile built file
     × AreGroups (map (λ s. string_bytes s) file.groups.items) groups
-    × (named.profiles ≡ file.profiles.items)
-    × AreKnown content profile built named.known
-    × AreTextsOf (name_of profile.configuration.now) (string_bytes file.text) file.filtersets.items file.places
-    named.texts
-    × AnswersNamed request packages suites groups named profile.name.now ending text
+    × AreTextsOf (name_of profile.configuration.now) (string_bytes file.text) file.filtersets.items file.places texts
+    × AnswersNamed request packages suites groups file.known texts ending text
 
 -- ---- what is answered
 
@@ -149,21 +136,17 @@ AnswersDecision content request ending text = (packages : List PackageMetadata)
 
 -- the configuration lacks a profile that the request names
 abbrev pub LacksNamed : DecisionRequest → ProfileRequest → List Profile → CommandFault → Type 0
-LacksNamed request profile profiles fault = (asked : ProfileRequest) × (asked.configuration.now ≡ profile.configuration.now)
-    × (((request.default_filter ≡ None) × (profile.name.now ≡ asked.name.now))
-    ⊎ IsSomeAnd request.default_filter (λ text. text.now ≡ codes "@" ++ asked.name.now)
-    ⊎ ((row : TextRow) × Contains (request_rows request) row × (row.text ≡ codes "@" ++ asked.name.now)))
-    × LacksProfile asked profiles fault
+LacksNamed request profile profiles fault = (name : Text) × (((request.default_filter ≡ None) × (profile.name.now ≡ name))
+    ⊎ IsSomeAnd request.default_filter (λ text. text.now ≡ codes "@" ++ name)
+    ⊎ ((row : TextRow) × Contains (request_rows request) row × (row.text ≡ codes "@" ++ name)))
+    × LacksProfile profile.configuration.now name profiles fault
 
 -- a file of the profiles is not used, or the configuration lacks one
 abbrev pub IsNamedFault : (Text → Option Text) → (Text → Error → Type 0) → DecisionRequest → ProfileRequest
     → CommandFault → Type 0
-IsNamedFault content fails request profile fault =
-    IsFileFault content fails roles.Configuration RefusesFile profile.configuration.now fault
-    ⊎ IsSettingsFault content fails roles.HostCfg profile.host_cfg fault
-    ⊎ IsSettingsFault content fails roles.TargetCfg profile.target_cfg fault
-    ⊎ ((file : ProfilesFile) × AreProfilesIn (content profile.configuration.now) file
-    × LacksNamed request profile file.profiles.items fault)
+IsNamedFault content fails request profile fault = IsUnread content fails profile fault
+    ⊎ ((built : BuildPlatforms) × (file : ProfilesFile) × AreProfilesIn content profile built file
+    × LacksNamed request profile file.known.profiles.items fault)
 
 -- the list at this path is not used; or its platforms are wrong, and there is a profile; or the profiles are not used
 abbrev pub IsListedFault : (Text → Option Text) → (Text → Error → Type 0) → DecisionRequest → List PackageMetadata
@@ -194,15 +177,16 @@ IsDefaultKind (chosens.Entry entry) = entry.kind ≡ kinds.DefaultFilter
 IsDefaultKind (chosens.Unknown path) = Unit {0}
 
 -- what the texts stand for, or that one is not known
-abbrev pub AreResolved : Naming → List TextRow → ResolvedEntries → Type 0
-AreResolved named rows (entries.Entries found) = AllZip (λ row own. ResolvesTo named row (Ok own)) rows (map text_row found.items)
-AreResolved named rows (entries.Unknown path) =
-    (row : TextRow) × Contains rows row × ResolvesTo named row (Err (string_bytes path))
+abbrev pub AreResolved : KnownProfiles → ConfiguredTexts → List TextRow → ResolvedEntries → Type 0
+AreResolved known texts rows (entries.Entries found) =
+    AllZip (λ row own. ResolvesTo known texts row (Ok own)) rows (map text_row found.items)
+AreResolved known texts rows (entries.Unknown path) =
+    (row : TextRow) × Contains rows row × ResolvesTo known texts row (Err (string_bytes path))
 
 -- the configuration lacks the profile that the text names
 abbrev pub LacksOwn : Text → List Profile → TextRow → CommandFault → Type 0
 LacksOwn configuration profiles row fault =
-    (name : Text) × (row.text ≡ codes "@" ++ name) × LacksName configuration profiles name fault
+    (name : Text) × (row.text ≡ codes "@" ++ name) × LacksProfile configuration name profiles fault
 
 -- or that one of the texts names
 abbrev pub LacksAny : Text → List Profile → List TextRow → CommandFault → Type 0

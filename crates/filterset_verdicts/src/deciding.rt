@@ -7,11 +7,10 @@ ghost use Rattle.filterset_sources.specs.Platforms.{ArePlatforms};
 ghost use Rattle.nextest_filtering.specs.Groups.{IsGlobalOnly, IsKnown};
 ghost use Rattle.nextest_filtering.specs.declared.compile.context.KnownGroups as contexts;
 ghost use Rattle.filterset_loading.specs.{Files.OrMemory, Workspaces.IsPlatformsFault};
-ghost use Rattle.filterset_verdicts.specs.Deciding.{AnswersDecision, AnswersKnown, AnswersListed, AnswersNamed, AnswersProfiles, AnswersRows, IsDecisionFault, IsDefaultKind, IsDefaultRow, IsListedFault, IsNamedFault, LacksNamed, naming_of, nowhere, outcome_of, question_of, request_rows, within_of};
+ghost use Rattle.filterset_verdicts.specs.Deciding.{AnswersDecision, AnswersKnown, AnswersListed, AnswersNamed, AnswersProfiles, AnswersRows, IsDecisionFault, IsDefaultKind, IsDefaultRow, IsListedFault, IsNamedFault, LacksNamed, nowhere, outcome_of, question_of, request_rows, within_of};
 
 use crate::answering::{TextQuestion, answer_texts};
 use crate::naming::{ResolvedEntries, filter_of, resolve, resolve_entries};
-use filterset_configuration::Profile;
 use filterset_deciding::Question;
 use filterset_display::Source;
 use filterset_entries::{
@@ -20,8 +19,8 @@ use filterset_entries::{
 };
 use filterset_graph::PackageGraph;
 use filterset_loading::{
-    CommandFault, Decision, DecisionRequest, FileSource, KnownPlatforms, ProfileRequest,
-    ProfilesFile, known_packages, name_of, platforms_of, read_facts, read_list, read_profiles_file,
+    CommandFault, Decision, DecisionRequest, FileSource, KnownProfiles, ProfileRequest,
+    ProfilesFile, known_packages, name_of, platforms_of, read_list, read_profiles_file,
 };
 use filterset_sources::{BuildPlatforms, Suite};
 use nextest_filtering::{FiltersetKind, KnownGroups};
@@ -35,8 +34,14 @@ struct KnownWorkspace<'k> {
     suites: &'k [Suite],
 }
 
-/// Returns the filterset of the tests that the question is about: the given one, or else that of all tests of the workspace,
-/// or of all tests if no workspace is given.
+/// A request, with the entries of its texts: that of the tests that the question is about, and then the filtersets.
+#[derive(Drop)]
+struct AskedDecision<'p> {
+    request: DecisionRequest<'p>,
+    entries: Vec<TextEntry<'p>>,
+}
+
+/// Returns the filterset of the tests in question: the given one, or else all tests, of the workspace if there is one.
 fn within_text<'w>(request: &DecisionRequest<'w>) -> &'w str
     ensures { result.now ≡ within_of request.now.within request.now.metadata }
 {
@@ -107,50 +112,46 @@ fn decide_entries(
 fn default_of<'p>(
     alloc: Global,
     request: &DecisionRequest<'p>,
-    profile: &ProfileRequest<'_>,
-    profiles: &'p [Profile],
-    known: &KnownPlatforms,
+    known: &'p KnownProfiles<'_>,
     texts: ConfiguredTexts<'p>,
 ) -> Result<ChosenFilter<'p>, CommandFault>
-    ensures found { IfOk result (λ filter. IsDefaultRow (naming_of profiles.entry.now known.now texts.entry)
-        profile.now.name.now (given_row request.now.default_filter) (outcome_of filter)) }
+    ensures found { IfOk result (λ filter. IsDefaultRow known.entry.now texts.entry
+        (given_row request.now.default_filter) (outcome_of filter)) }
     ensures kind { IfOk result IsDefaultKind }
-    ensures missing { IfErr result (OrMemory (LacksNamed request.now profile.now profiles.entry.now)) }
+    ensures missing { IfErr result (OrMemory
+        (LacksNamed request.now known.entry.now.request known.entry.now.profiles.items)) }
 {
-    let path = profile.configuration;
     match request.default_filter {
         Some(text) => {
             let entry = default_entry(alloc, text)?;
-            resolve(alloc, path, profiles, known, texts, entry)
+            resolve(alloc, known, texts, entry)
         }
-        None => filter_of(alloc, path, profiles, known, texts, profile.name),
+        None => filter_of(alloc, known, texts, known.request.name),
     }
 }
 
 /// Answers under the default filters of profiles.
 fn decide_named<'p>(
     alloc: Global,
-    request: DecisionRequest<'p>,
+    asked: AskedDecision<'p>,
     workspace: KnownWorkspace<'_>,
+    known: &'p KnownProfiles<'_>,
     groups: &KnownGroups,
-    profile: &ProfileRequest<'_>,
-    profiles: &'p [Profile],
-    known: &KnownPlatforms,
     texts: ConfiguredTexts<'p>,
-    entries: Vec<TextEntry<'p>>,
 ) -> Result<Answer, CommandFault>
     requires groups { IsKnown groups.now }
-    requires rows { map text_row entries.items ≡ request_rows request }
-    ensures answered { IfOk result (λ answer. AnswersNamed request.entry workspace.entry.graph.now workspace.entry.suites.now groups.now
-        (naming_of profiles.entry.now known.now texts.entry) profile.now.name.now answer.ending (string_bytes answer.text)) }
-    ensures missing { IfErr result (OrMemory (LacksNamed request.entry profile.now profiles.entry.now)) }
+    requires rows { map text_row asked.entries.items ≡ request_rows asked.request }
+    ensures answered { IfOk result (λ answer. AnswersNamed asked.entry.request workspace.entry.graph.now workspace.entry.suites.now
+        groups.now known.entry.now texts.entry answer.ending (string_bytes answer.text)) }
+    ensures missing { IfErr result (OrMemory
+        (LacksNamed asked.entry.request known.entry.now.request known.entry.now.profiles.items)) }
 {
-    let default = match default_of(alloc, &request, profile, profiles, known, texts)? {
+    let AskedDecision { request, entries } = asked;
+    let default = match default_of(alloc, &request, known, texts)? {
         ChosenFilter::Entry(default) => default,
         ChosenFilter::Unknown(path) => return Ok(answer_unknown(alloc, path.as_str())?),
     };
-    let path = profile.configuration;
-    match resolve_entries(alloc, path, profiles, known, texts, entries)? {
+    match resolve_entries(alloc, known, texts, entries)? {
         ResolvedEntries::Entries(entries) => {
             let entries = entries.as_slice();
             Ok(decide_entries(alloc, &request, workspace, groups, &default, entries)?)
@@ -173,37 +174,31 @@ fn nowhere() -> BuildPlatforms
 fn decide_configured<F: FileSource>(
     alloc: Global,
     files: &F,
-    request: &DecisionRequest<'_>,
+    asked: AskedDecision<'_>,
     workspace: KnownWorkspace<'_>,
     profile: &ProfileRequest<'_>,
     built: BuildPlatforms,
-    entries: Vec<TextEntry<'_>>,
 ) -> Result<Answer, CommandFault>
-    requires { map text_row entries.items ≡ request_rows request.now }
-    ensures answered { IfOk result (λ answer. AnswersProfiles (F.content files.now) request.now
+    requires { map text_row asked.entries.items ≡ request_rows asked.request }
+    ensures answered { IfOk result (λ answer. AnswersProfiles (F.content files.now) asked.entry.request
         workspace.entry.graph.now workspace.entry.suites.now profile.now built answer.ending (string_bytes answer.text)) }
     ensures refused { IfErr result (OrMemory
-        (IsNamedFault (F.content files.now) (F.fails files.now) request.now profile.now)) }
+        (IsNamedFault (F.content files.now) (F.fails files.now) asked.entry.request profile.now)) }
 {
     let ProfilesFile {
         text,
         filtersets,
         places,
         groups,
-        profiles,
-    } = read_profiles_file(alloc, files, profile.configuration)?;
-    let known = read_facts(alloc, files, profile, built)?;
+        known,
+    } = read_profiles_file(alloc, files, profile, built)?;
     let groups = KnownGroups::of(alloc, groups)?;
     let source = Source::new(alloc, name_of(profile.configuration), text.as_str())?;
     let texts = configured_texts(&source, filtersets.as_slice(), &places);
-    let profiles = profiles.as_slice();
-    decide_named(
-        alloc, *request, workspace, &groups, profile, profiles, &known, texts, entries,
-    )
+    decide_named(alloc, asked, workspace, &known, &groups, texts)
 }
 
-/// Answers for a workspace: under profiles on these platforms, or without one under the default filter that is given, or else
-/// all tests.
+/// Answers for a workspace: under profiles on these platforms, or else under the default filter, given or of all tests.
 fn decide_known<F: FileSource>(
     alloc: Global,
     files: &F,
@@ -224,9 +219,13 @@ fn decide_known<F: FileSource>(
             let entries = entries.as_slice();
             Ok(decide_entries(alloc, request, workspace, &groups, &default, entries)?)
         }
-        Some(profile) => decide_configured(
-            alloc, files, request, workspace, profile, built, entries,
-        ),
+        Some(profile) => {
+            let asked = AskedDecision {
+                request: *request,
+                entries,
+            };
+            decide_configured(alloc, files, asked, workspace, profile, built)
+        }
     }
 }
 

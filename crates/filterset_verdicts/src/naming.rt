@@ -3,12 +3,12 @@ ghost use Rattle.std.specs.Prelude.{◌≡◌, ◌≢◌, ◌++◌, ◌∷◌, [
 ghost use Rattle.filterset_entries.specs.Checked.{text_row};
 ghost use Rattle.filterset_display.specs.Columns.{Text};
 ghost use Rattle.filterset_faults.specs.declared.kind.FiltersetKind.TheVariants as kinds;
-ghost use Rattle.filterset_verdicts.specs.Deciding.{AreResolved, IsDefaultKind, IsFilterOf, LacksAny, LacksOwn, ResolvesTo, naming_of, outcome_of};
-ghost use Rattle.filterset_loading.specs.{Configurations.LacksName, Files.OrMemory};
+ghost use Rattle.filterset_verdicts.specs.Deciding.{AreResolved, IsDefaultKind, IsFilterOf, LacksAny, LacksOwn, ResolvesTo, outcome_of};
+ghost use Rattle.filterset_loading.specs.{Configurations.LacksProfile, Files.OrMemory};
 
-use filterset_configuration::{Profile, default_filter, rank_overrides};
+use filterset_configuration::{default_filter, rank_overrides};
 use filterset_entries::{ChosenFilter, ConfiguredTexts, TextEntry, choose};
-use filterset_loading::{CommandFault, KnownPlatforms, lineage_of, request_of};
+use filterset_loading::{CommandFault, KnownProfiles, lineage_of};
 use std::alloc::{AllocError, Global};
 
 /// What texts stand for.
@@ -27,25 +27,25 @@ fn profile_name(text: &str) -> Option<&str>
     text.strip_prefix('@')
 }
 
-/// Returns the default filter of the profile with this name, of the configuration at a path.
+/// Returns the default filter of the profile with this name.
 #[tactic(auto, using(crate::proofs::NamingLemmas::chosen_outcome, crate::proofs::NamingLemmas::chosen_kind))]
 pub fn filter_of<'p>(
     alloc: Global,
-    configuration: &str,
-    profiles: &'p [Profile],
-    known: &KnownPlatforms,
+    known: &'p KnownProfiles<'_>,
     texts: ConfiguredTexts<'p>,
     name: &str,
 ) -> Result<ChosenFilter<'p>, CommandFault>
     ensures found { IfOk result (λ filter.
-        IsFilterOf (naming_of profiles.entry.now known.now texts.entry) name.now (outcome_of filter)) }
+        IsFilterOf known.entry.now texts.entry name.now (outcome_of filter)) }
     ensures kind { IfOk result IsDefaultKind }
-    ensures missing { IfErr result (OrMemory (LacksName configuration.now profiles.entry.now name.now)) }
+    ensures missing { IfErr result (OrMemory (LacksProfile known.entry.now.request.configuration.now
+        name.now known.entry.now.profiles.items)) }
 {
-    let request = request_of(configuration, name);
-    let lineage = lineage_of(alloc, &request, profiles)?;
+    let (path, profiles) = (known.request.configuration, known.profiles.as_slice());
+    let lineage = lineage_of(alloc, path, name, profiles)?;
     let lineage = lineage.as_slice();
-    let ranked = rank_overrides(alloc, lineage, &known.host, &known.target)?;
+    let platforms = &known.platforms;
+    let ranked = rank_overrides(alloc, lineage, &platforms.host, &platforms.target)?;
     let filter = default_filter(alloc, lineage, ranked.as_slice())?;
     Ok(choose(alloc, texts, None, filter)?)
 }
@@ -53,19 +53,18 @@ pub fn filter_of<'p>(
 /// Returns what a text stands for: the default filter of the profile that it names, or itself.
 pub fn resolve<'p>(
     alloc: Global,
-    configuration: &str,
-    profiles: &'p [Profile],
-    known: &KnownPlatforms,
+    known: &'p KnownProfiles<'_>,
     texts: ConfiguredTexts<'p>,
     entry: TextEntry<'p>,
 ) -> Result<ChosenFilter<'p>, CommandFault>
     ensures found { IfOk result (λ filter.
-        ResolvesTo (naming_of profiles.entry.now known.now texts.entry) (text_row entry.entry) (outcome_of filter)) }
+        ResolvesTo known.entry.now texts.entry (text_row entry.entry) (outcome_of filter)) }
     ensures kind { entry.entry.kind ≡ kinds.DefaultFilter → IfOk result IsDefaultKind }
-    ensures missing { IfErr result (OrMemory (LacksOwn configuration.now profiles.entry.now (text_row entry.entry))) }
+    ensures missing { IfErr result (OrMemory (LacksOwn known.entry.now.request.configuration.now
+        known.entry.now.profiles.items (text_row entry.entry))) }
 {
     match profile_name(entry.text) {
-        Some(name) => filter_of(alloc, configuration, profiles, known, texts, name),
+        Some(name) => filter_of(alloc, known, texts, name),
         None => Ok(ChosenFilter::Entry(entry)),
     }
 }
@@ -81,20 +80,18 @@ fn push_entry<'p>(entries: &mut Vec<TextEntry<'p>>, entry: TextEntry<'p>) -> Res
 /// Returns what texts stand for.
 pub fn resolve_entries<'p>(
     alloc: Global,
-    configuration: &str,
-    profiles: &'p [Profile],
-    known: &KnownPlatforms,
+    known: &'p KnownProfiles<'_>,
     texts: ConfiguredTexts<'p>,
     entries: Vec<TextEntry<'p>>,
 ) -> Result<ResolvedEntries<'p>, CommandFault>
     ensures found { IfOk result (λ resolved.
-        AreResolved (naming_of profiles.entry.now known.now texts.entry) (map text_row entries.entry.items) resolved) }
-    ensures missing { IfErr result (OrMemory
-        (LacksAny configuration.now profiles.entry.now (map text_row entries.entry.items))) }
+        AreResolved known.entry.now texts.entry (map text_row entries.entry.items) resolved) }
+    ensures missing { IfErr result (OrMemory (LacksAny known.entry.now.request.configuration.now
+        known.entry.now.profiles.items (map text_row entries.entry.items))) }
 {
     let mut resolved = Vec::with_capacity(alloc, entries.len())?;
     for entry in entries {
-        match resolve(alloc, configuration, profiles, known, texts, entry)? {
+        match resolve(alloc, known, texts, entry)? {
             ChosenFilter::Entry(entry) => push_entry(&mut resolved, entry)?,
             ChosenFilter::Unknown(path) => return Ok(ResolvedEntries::Unknown(path)),
         }

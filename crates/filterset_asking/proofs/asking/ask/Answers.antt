@@ -35,7 +35,7 @@ returns-in_err-built-in-Some-clause-refused g c =
 
 pub returns-clause-answered : goal.returns-clause-answered
 returns-clause-answered g c =
-    let told = rw (c.as_slice.ensures.value, c.kept_of-kept.ensures, c.in_ok-given-in-Some.ensures) at c.ask_configured.ensures.answered in
+    let told = rw (c.as_slice.ensures.value, c.kept_of-kept.ensures, c.in_ok-default-in-Some.ensures) at c.ask_configured.ensures.answered in
     IfOk-weaker c.ask_configured.result _ _ (λ answer answers. (
       c.in_ok-graph.field-0,
       c.in_ok-graph.ensures.read,

@@ -17,8 +17,8 @@ returns-clause-answered c =
         told.1.0,
         subst IsGlobalOnly (sym told.1.1) c.global_only-groups.ensures.global,
         ap text_row told.1.2 ∙ row,
-        told.1.3,
-        told.1.4,
+        told.1.3 ∙ c.new-overrides.ensures.items,
+        told.1.4 ∙ c.new-profiles.ensures.items,
       ),
       told.2,
     )) c.ask_under.ensures.answered

@@ -3,6 +3,7 @@ use Rattle.std.proofs.lemmas.{List.map-append, Result.err_from_is_err_and}
 use Rattle.std.specs.Prelude.{IsSomeAnd, Option, if◌then◌else◌}
 use Rattle.filterset_configuration.specs.declared.wrong.WrongValue.{WrongValue}
 use Rattle.filterset_entries.specs.{Checked.text_row, Endings.ending_of, declared.text.Ending.TheVariants.Faulty}
+use Rattle.nextest_filtering.specs.Compiling.{packages_of}
 use Rattle.filterset_asking.specs.{Checking.IsUnchecked, Warned.IsListedFault, Warned.request_after}
 use Rattle.filterset_loading.specs.declared.{fault.CommandFault.CommandFault, request.WarningRequest.WarningRequest}
 use Rattle.filterset_loading.proofs.FaultLemmas.{OrMemory-weaker}
@@ -28,13 +29,13 @@ either (suc n) faulty =
 pub returns-clause-answered : goal.returns-clause-answered
 returns-clause-answered g c =
     let values = c.in_ok-values.values.items in
-    let own = map text_row c.args.given.items in
+    let own = map text_row c.args.given.entries.items in
     let rows = ap (λ entries. map text_row entries) c.in_ok-append.ensures.items
-    ∙ map-append text_row c.in_ok-entries.entries.items c.args.given.items ∙ ap (λ rows. rows ++ own) c.in_ok-entries.ensures in
+    ∙ map-append text_row c.in_ok-entries.entries.items c.args.given.entries.items ∙ ap (λ rows. rows ++ own) c.in_ok-entries.ensures in
     let answers = rw (c.as_slice.ensures.value, rows) at c.in_ok-checked.ensures in
     let added = rw c.as_slice-values.ensures.value at c.in_ok-answer.ensures.text in
     let ends = rw c.as_slice-values.ensures.value at c.in_ok-answer.ensures.ending in
-    let warned = rw (c.as_slice.ensures.value, rows, c.request_after-request.ensures, c.as_slice-values.ensures.value) at c.in_ok-warnings.ensures.answered in (
+    let warned = rw (c.as_slice.ensures.value, rows, c.request_after-request.ensures, c.as_slice-values.ensures.value, c.graph.ensures) at c.in_ok-warnings.ensures.answered in (
       values,
       c.in_ok-own.own.count,
       c.in_ok-answer.answer.ending,
@@ -64,10 +65,11 @@ returns-in_err-warnings-clause-refused g c =
     let content = g.F.FileSource.content c.args.files.now in
     let fails = g.F.FileSource.fails c.args.files.now in
     let paths = c.args.paths in
-    let bytes = c.args.texts.file.now.text.now in
-    let Listed : CommandFault → WarningRequest → Type 0 = λ fault request. IsListedFault content fails c.args.graph.now paths.configuration bytes request fault in
+    let bytes = c.args.configured.texts.file.now.text.now in
+    let packages = packages_of c.args.names.now.parse_context in
+    let Listed : CommandFault → WarningRequest → Type 0 = λ fault request. IsListedFault content fails packages paths.configuration bytes request fault in
     let asked = c.request_after-request.ensures in
     let error = err_from_is_err_and c.from_residual-in_err-warnings.result c.from_residual-in_err-warnings.ensures.1 in
-    rw (error.1, error.2) (OrMemory-weaker (λ (fault : CommandFault). IsSomeAnd c.request_after-request.result (Listed fault))
-    (IsUnchecked content fails c.args.graph.now paths bytes)
-    (λ fault wrong. inl (requested (Listed fault) c.as_slice-values.result.now paths.warnings (rw asked at wrong))) c.in_err-warnings.field-0.0 c.in_err-warnings.ensures.refused)
+    rw (error.1, error.2) (OrMemory-weaker (λ (fault : CommandFault). IsSomeAnd c.request_after-request.result (λ request. IsListedFault content fails c.graph.result.now paths.configuration bytes request fault))
+    (IsUnchecked content fails packages paths bytes)
+    (λ fault wrong. inl (requested (Listed fault) c.as_slice-values.result.now paths.warnings (rw (asked, c.graph.ensures) at wrong))) c.in_err-warnings.field-0.0 c.in_err-warnings.ensures.refused)

@@ -5,6 +5,7 @@ use Rattle.toml.specs.View.{view}
 use Rattle.filterset_display.specs.{Columns.Text, declared.source.Source.Source}
 use Rattle.filterset_configuration.specs.declared.place.Place.{Place}
 use Rattle.filterset_sources.specs.{Configurations.IsFile, declared.configuration.Configuration.Configuration}
+use Rattle.nextest_filtering.specs.Compiling.{packages_of}
 use Rattle.filterset_asking.specs.Checking.{IsCheckFault, IsUnchecked, KnownConfiguration}
 use Rattle.filterset_loading.proofs.FaultLemmas.{OrMemory-weaker}
 use Rattle.filterset_asking.proofs.checking.check_texts.Goals as goal
@@ -21,12 +22,12 @@ origin_of s = s.origin.now
 abbrev text_of : Source → Text
 text_of s = s.text.now
 
-pub check_all-requires-clause-file : goal.check_all-requires-clause-file
-check_all-requires-clause-file g c =
+pub invariant_of-configured : goal.invariant_of-configured
+invariant_of-configured g c =
     let file = c.in_ok-text.field-0 in
     let bytes = ap text_of c.configured_texts-texts.ensures.file ∙ c.in_ok-source.ensures.text ∙ c.as_str.ensures.value in
     let known = known_is _ c.args.paths.now.configuration (string_bytes file.text) file.configuration file.places.places.items c.in_ok-text.ensures.known in
-    subst (λ t. IsFile t (view file.configuration.file)) (sym bytes) known
+    record { is_file = subst (λ t. IsFile t (view file.configuration.file)) (sym bytes) known }
 
 pub returns-clause-answered : goal.returns-clause-answered
 returns-clause-answered g c =
@@ -62,8 +63,9 @@ returns-clause-refused g c =
     let paths = c.args.paths.now in
     let file = c.in_ok-text.field-0 in
     let graph = c.in_ok-graph.graph in
+    let names = c.in_ok-names in
     let bytes = ap text_of c.configured_texts-texts.ensures.file ∙ c.in_ok-source.ensures.text ∙ c.as_str.ensures.value in
-    IfErr-weaker c.check_all.result _ _ (OrMemory-weaker (IsUnchecked content fails graph paths c.configured_texts-texts.result.file.now.text.now)
+    IfErr-weaker c.check_all.result _ _ (OrMemory-weaker (IsUnchecked content fails (packages_of names.names.parse_context) paths c.configured_texts-texts.result.file.now.text.now)
     (IsCheckFault content fails paths)
     (λ fault wrong. inr (inr (
       graph,
@@ -72,5 +74,5 @@ returns-clause-refused g c =
       file.places,
       c.in_ok-graph.ensures.known,
       c.in_ok-text.ensures.known,
-      rw bytes at wrong,
+      rw (bytes, names.ensures.names.0) at wrong,
     )))) c.check_all.ensures.refused

@@ -12,15 +12,12 @@ returns-clause-answered g c =
     let parts = c.configured_texts-texts.ensures in
     let origin_of : Source → Text = λ s. s.origin.now in
     let text_of : Source → Text = λ s. s.text.now in
-    let told = rw c.as_slice-profiles.ensures.value at c.ask_profile.ensures.answered in
     IfOk-weaker c.ask_profile.result _ _ (λ answer answers. (
       c.in_ok-text.field-0,
       c.in_ok-groups.groups,
-      c.in_ok-known.known,
       c.configured_texts-texts.result,
       c.in_ok-text.ensures.read,
       c.in_ok-groups.ensures.groups,
-      c.in_ok-known.ensures.read,
       (
         ap origin_of parts.file ∙ c.in_ok-source.ensures.origin ∙ c.name_of.ensures,
         ap text_of parts.file ∙ c.in_ok-source.ensures.text ∙ c.as_str.ensures.value,
@@ -28,7 +25,7 @@ returns-clause-answered g c =
         parts.places,
       ),
       answers,
-    )) told
+    )) c.ask_profile.ensures.answered
 
 pub returns-clause-refused : goal.returns-clause-refused
 returns-clause-refused g c =
@@ -37,10 +34,9 @@ returns-clause-refused g c =
     let profile = c.args.profile.now in
     let asked = c.args.asked.now in
     let file = c.in_ok-text.field-0 in
-    let told = rw c.as_slice-profiles.ensures.value at c.ask_profile.ensures.missing in
-    IfErr-weaker c.ask_profile.result _ _ (OrMemory-weaker (λ (fault : CommandFault). Lacks asked fault ⊎ LacksProfile profile file.profiles.items fault)
+    IfErr-weaker c.ask_profile.result _ _ (OrMemory-weaker (λ (fault : CommandFault). Lacks asked fault ⊎ LacksProfile file.known.request.configuration.now file.known.request.name.now file.known.profiles.items fault)
     (λ (fault : CommandFault). Lacks asked fault ⊎ IsProfileFault content fails profile fault)
     (λ fault either. elim either as (λ _. Lacks asked fault ⊎ IsProfileFault content fails profile fault) [
       | inl lacks ↦ inl lacks
-      | inr lacks ↦ inr (inr (inr (inr (file, c.in_ok-text.ensures.read, lacks))))
-    ])) told
+      | inr lacks ↦ inr (inr (c.args.built, file, c.in_ok-text.ensures.read, rw c.in_ok-text.ensures.read.4 at lacks))
+    ])) c.ask_profile.ensures.missing

@@ -1,4 +1,4 @@
-use Rattle.std.proofs.Common.{◌≡◌, ◌∙◌, List, Result, ap, map, option_map, string_bytes, subst, sym}
+use Rattle.std.proofs.Common.{◌≡◌, List, Result, ap, map, option_map, string_bytes, subst, sym}
 use Rattle.std.proofs.lemmas.Result.{IfOk-weaker}
 use Rattle.std.specs.{List.AllZip, Prelude.MatchResult}
 use Rattle.serde_json.specs.View.{view}
@@ -19,14 +19,14 @@ returns-clause-answered c =
     let AreEntries : List OverrideEntry → Type 0 = AllZip (IsEntryOf c.args.texts) c.in_ok-ranked.ranked.items in
     let AreProfiles : List AskedProfile → Type 0 = AllZip IsProfileOf lineage in
     let Told : Ending → Text → Result TextRow Text → Type 0 = λ ending text outcome. MatchResult outcome
-        (λ row. (setting : Setting) × (setting.graph.now ≡ c.args.asked.now.graph.now) × (setting.groups.now ≡ c.args.groups.now)
-        × (text_row setting.default.now ≡ row) × AreEntries setting.overrides.now × AreProfiles setting.profiles.now
-        × AnswersIn c.args.asked.now (option_map view c.args.kept) setting ending text) (λ path. AnswersUnknown path ending text) in
+    (λ row. (setting : Setting) × (setting.graph.now ≡ c.args.asked.now.graph.now) × (setting.groups.now ≡ c.args.groups.now)
+    × (text_row setting.default.now ≡ row) × AreEntries setting.overrides.now × AreProfiles setting.profiles.now
+    × AnswersIn c.args.asked.now (option_map view c.args.given.kept) setting ending text) (λ path. AnswersUnknown path ending text) in
     IfOk-weaker c.ask_under.result _ _ (λ answer told. (
       lineage,
       c.in_ok-ranked.ranked.items,
       c.in_ok-filter.filter,
-      c.in_ok-lineage.ensures.found,
+      rw c.as_slice-profiles.ensures.value at c.in_ok-lineage.ensures.found,
       rw lines at c.in_ok-ranked.ensures,
       rw (lines, ranks) at c.in_ok-filter.ensures,
       subst (Told answer.ending (string_bytes answer.text)) (sym chosen.0) (
@@ -34,8 +34,8 @@ returns-clause-answered c =
         told.1.0,
         told.1.1,
         ap text_row told.1.2,
-        subst AreEntries (sym (told.1.3 ∙ c.as_slice-overrides.ensures.value)) (rw ranks at c.in_ok-overrides.ensures),
-        subst AreProfiles (sym (told.1.4 ∙ c.as_slice-profiles.ensures.value)) (rw lines at c.in_ok-profiles.ensures),
+        subst AreEntries (sym told.1.3) (rw ranks at c.in_ok-overrides.ensures),
+        subst AreProfiles (sym told.1.4) (rw lines at c.in_ok-profiles.ensures),
         told.2,
       ),
     )) c.ask_under.ensures.answered

@@ -17,7 +17,7 @@ returns-in-None-clause-refused g c =
     let request = c.args.request.now in
     let texts = c.args.texts.now in
     IfErr-weaker c.ask_plainly.result _ _ (OrMemory-weaker (λ (fault : CommandFault). ⊥)
-    (IsListedFault content fails texts.graph.now texts.path texts.configured.file.now.text.now request)
+    (IsListedFault content fails texts.graph.now texts.path texts.configured.texts.file.now.text.now request)
     (λ fault lacks. absurd lacks)) c.ask_plainly.ensures.missing
 
 pub returns-clause-answered : goal.returns-clause-answered
@@ -32,8 +32,8 @@ returns-clause-refused g c =
     let request = c.args.request.now in
     let texts = c.args.texts.now in
     let Unused : CommandFault → Type 0 =
-    IsProfileUnused content fails texts.configured.file.now.text.now request.paths.list.now (view c.in_ok-list.value) (profile_at c.in-Some.path request) in
-    let Wrong : CommandFault → Type 0 = IsListedFault content fails texts.graph.now texts.path texts.configured.file.now.text.now request in
+    IsProfileUnused content fails texts.configured.texts.file.now.text.now request.paths.list.now (view c.in_ok-list.value) (profile_at c.in-Some.path request) in
+    let Wrong : CommandFault → Type 0 = IsListedFault content fails texts.graph.now texts.path texts.configured.texts.file.now.text.now request in
     let told = rw c.profile_at-profile.ensures at c.warn_configured.ensures.refused in
     IfErr-weaker c.warn_configured.result _ _ (OrMemory-weaker (λ (fault : CommandFault). ⊥ ⊎ Unused fault) Wrong
     (λ fault either. elim either as (λ _. Wrong fault) [

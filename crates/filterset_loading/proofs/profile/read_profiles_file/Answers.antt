@@ -12,10 +12,12 @@ invariant_of-parsed g c =
 
 pub returns-clause-read : goal.returns-clause-read
 returns-clause-read g c =
-    let AreHere : Text → Type 0 = λ bytes. HasProfiles bytes c.in_ok-profiles.profiles.items in (
+    let AreHere : Text → Type 0 = λ bytes. HasProfiles bytes c.in_ok-profiles_in.field-0.items in (
       c.in_ok-text.field-0.configuration,
       c.in_ok-text.ensures.read,
       refl,
       refl,
-      subst AreHere c.as_str.ensures.value c.in_ok-profiles.ensures.read,
+      refl,
+      subst AreHere c.as_str.ensures.value c.in_ok-profiles_in.ensures.read,
+      c.in_ok-read_facts.ensures.read,
     )

@@ -15,16 +15,15 @@ lacks_named : (request : DecisionRequest) (profile : ProfileRequest) (profiles :
     LacksAny profile.configuration.now profiles rows fault → LacksNamed request profile profiles fault
 lacks_named request profile profiles rows are fault lacks =
     let row = lacks.0 in
-    let own = lacks.2.2 in
-    let text = lacks.2.1 ∙ ap (λ (name : Text). codes "@" ++ name) (sym own.2) in
-    (own.0, own.1, inr (inr (row, subst (λ rs. Contains rs row) are lacks.1, text)), own.3)
+    let own = lacks.2 in
+    (own.0, inr (inr (row, subst (λ rs. Contains rs row) are lacks.1, own.1)), own.2)
 
 pub returns-in_err-entries-clause-missing : goal.returns-in_err-entries-clause-missing
 returns-in_err-entries-clause-missing c =
-    let request = c.args.request in
-    let profile = c.args.profile.now in
-    let profiles = c.args.profiles.now in
-    let rows = map text_row c.args.entries.items in
+    let request = c.args.asked.request in
+    let profile = c.args.known.now.request in
+    let profiles = c.args.known.now.profiles.items in
+    let rows = map text_row c.args.asked.entries.items in
     let error = err_from_is_err_and c.from_residual-in_err-entries.result c.from_residual-in_err-entries.ensures.1 in
     rw (error.1, error.2) (OrMemory-weaker (LacksAny profile.configuration.now profiles rows) (LacksNamed request profile profiles)
     (lacks_named request profile profiles rows c.requires.rows) c.in_err-entries.field-0.0 c.in_err-entries.ensures.missing)

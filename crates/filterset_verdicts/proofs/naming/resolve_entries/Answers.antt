@@ -2,15 +2,15 @@ use Rattle.std.proofs.Common.{rules, ◌∷◌, [], Ok, map, length}
 use Rattle.std.proofs.lemmas.Iterator.{Adapters.YieldsList-from_vec, Consumers.YieldsList-turn}
 use Rattle.std.proofs.lemmas.{List.map-append, Result.err_from_is_err_and, Slice.Zip.all_zipped_more}
 use Rattle.filterset_entries.specs.Checked.{TextRow, text_row}
-use Rattle.filterset_verdicts.specs.Deciding.{LacksAny, LacksOwn, ResolvesTo, naming_of}
+use Rattle.filterset_verdicts.specs.Deciding.{LacksAny, LacksOwn, ResolvesTo}
 use Rattle.filterset_verdicts.proofs.NamingLemmas.{contains_image}
 use Rattle.filterset_loading.proofs.FaultLemmas.{OrMemory-weaker}
 use Rattle.filterset_verdicts.proofs.naming.resolve_entries.Goals as goal
 
 pub returns-in_err-entry-clause-missing : goal.returns-in_err-entry-clause-missing
 returns-in_err-entry-clause-missing c =
-    let path = c.args.configuration.now in
-    let profiles = c.args.profiles.now in
+    let path = c.args.known.now.request.configuration.now in
+    let profiles = c.args.known.now.profiles.items in
     let entries = c.args.entries.items in
     let all = YieldsList-from_vec {s = c.into_iter-entry-iterator.result} entries (search rules) (search rules) in
     let turn = YieldsList-turn all c.loop-entry.yielded c.loop-entry.entry-iterator c.loop-entry.yielded_by _ c.next.new.self c.in-Some.entry c.in-Some.is c.next.ensures.steps in
@@ -21,8 +21,7 @@ returns-in_err-entry-clause-missing c =
 
 pub loop-entry-preserved : goal.loop-entry-preserved
 loop-entry-preserved c =
-    let named = naming_of c.args.profiles.now c.args.known.now c.args.texts in
-    let Resolves : TextRow → TextRow → Type 0 = λ row own. ResolvesTo named row (Ok own) in
+    let Resolves : TextRow → TextRow → Type 0 = λ row own. ResolvesTo c.args.known.now c.args.texts row (Ok own) in
     let own = rw c.in-Entry.is at c.in_ok-entry.ensures.found in
     rw (c.in_ok-push_entry-in-Entry.ensures, map-append text_row c.loop-entry.yielded (c.in-Some.entry ∷ []), map-append text_row c.loop-entry.resolved.items (c.in-Entry.entry ∷ []))
     (all_zipped_more Resolves (map text_row c.loop-entry.yielded) (map text_row c.loop-entry.resolved.items) (text_row c.in-Some.entry) (text_row c.in-Entry.entry) c.loop-entry.invariant own)
