@@ -34,32 +34,36 @@ rows_of kind StandardInput file = line_rows false file kind
 abbrev pub IsShown : ErrorKind → Type 0
 IsShown kind = (kind ≡ DisplayHelp) ⊎ (kind ≡ DisplayVersion)
 
--- the answer to a request, and how the command ends, where files have these contents and standard input has this text
-abbrev pub Answers : (Text → Option Text) → Text → Request → Ending → Text → Type 0
-Answers content input (Check kind form texts paths) = λ ending text. (file : Bor Source) × IsInputFile input file.now
-    × AnswersCheck (content_of content input) form paths (rows_of kind texts file) ending text
-Answers content input (Format form texts) = λ ending text. (file : Bor Source) × (faulty : ℕ) × IsInputFile input file.now
+-- the answer to a request, and how the command ends, where files have these contents, and this is standard input
+abbrev pub AnswersWith : (Text → Option Text) → Bor Source → Request → Ending → Text → Type 0
+AnswersWith content file (Check kind form texts paths) = AnswersCheck content form paths (rows_of kind texts file)
+AnswersWith content file (Format form texts) = λ ending text. (faulty : ℕ)
     × FormatsTexts form (rows_of kinds.Test texts file) faulty text × (ending ≡ ending_of faulty)
-Answers content input (Simplify form texts) = λ ending text. (file : Bor Source) × (faulty : ℕ) × IsInputFile input file.now
+AnswersWith content file (Simplify form texts) = λ ending text. (faulty : ℕ)
     × SimplifiesTexts form (rows_of kinds.Test texts file) faulty text × (ending ≡ ending_of faulty)
-Answers content input (Ask asked) = AnswersAsked (content_of content input) asked
-Answers content input (Decide asked) = AnswersDecision (content_of content input) asked
-Answers content input (Show shown) = λ ending text. (ending ≡ Fine) × (text ≡ shown.now)
+AnswersWith content file (Ask asked) = AnswersAsked content asked
+AnswersWith content file (Decide asked) = AnswersDecision content asked
+AnswersWith content file (Show shown) = λ ending text. (ending ≡ Fine) × (text ≡ shown.now)
+
+-- the same, where standard input has this text
+abbrev pub Answers : (Text → Option Text) → Text → Request → Ending → Text → Type 0
+Answers content input request ending text =
+    (file : Bor Source) × IsInputFile input file.now × AnswersWith (content_of content input) file request ending text
 
 -- the same, where this is left of standard input; if the bytes of that or of files are not known, it is the answer for some
 abbrev pub IsAnswered : (Text → Option Text) → Request → Option Text → Ending → Text → Type 0
 IsAnswered content request left ending text =
     (input : Text) × IsInput request left input × Answers content input request ending text
 
--- the fault of a request, where files have these contents, reading one fails with these errors, and standard input has this text
-abbrev pub Faults : (Text → Option Text) → (Text → Error → Type 0) → Text → Request → CommandFault → Type 0
-Faults content fails input (Check kind form texts paths) fault = IsCheckFault (content_of content input) fails paths fault
-Faults content fails input (Ask asked) fault = IsAskedFault (content_of content input) fails asked fault
-Faults content fails input (Decide asked) fault = IsDecisionFault (content_of content input) fails asked fault
-Faults content fails input _ fault = ⊥
+-- the fault of a request, where files have these contents, and reading one fails with these errors
+abbrev pub Faults : (Text → Option Text) → (Text → Error → Type 0) → Request → CommandFault → Type 0
+Faults content fails (Check kind form texts paths) fault = IsCheckFault content fails paths fault
+Faults content fails (Ask asked) fault = IsAskedFault content fails asked fault
+Faults content fails (Decide asked) fault = IsDecisionFault content fails asked fault
+Faults content fails _ fault = ⊥
 
 -- the fault of a request that is not answered, where this is left of standard input, and its reader has failed or not
 abbrev pub IsFaultOf : (Text → Option Text) → (Text → Error → Type 0) → Request → Option Text → Bool → CommandFault
     → Type 0
 IsFaultOf content fails request left failed fault = ((0 < input_count request) × IsInputFault left failed fault)
-    ⊎ ((input : Text) × IsInput request left input × Faults content fails input request fault)
+    ⊎ ((input : Text) × IsInput request left input × Faults (content_of content input) fails request fault)

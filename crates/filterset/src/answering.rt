@@ -1,8 +1,8 @@
 //! The answers to requests.
 ghost use Rattle.std.specs.Prelude.{◌≡◌, ◌<◌, IfErr, IfOk, OnOk, map, string_bytes};
 ghost use Rattle.filterset_entries.specs.Checked.{text_row};
-ghost use Rattle.filterset_loading.specs.{Files.OrMemory, Words.IsInputFault, Words.input_count};
-ghost use Rattle.filterset.specs.Requests.{Answers, Faults, IsAnswered, IsFaultOf, IsInput, IsInputFile, rows_of};
+ghost use Rattle.filterset_loading.specs.{Files.OrMemory, Files.content_of, Words.IsInputFault, Words.input_count};
+ghost use Rattle.filterset.specs.Requests.{Answers, AnswersWith, Faults, IsAnswered, IsFaultOf, IsInput, rows_of};
 
 use filterset_asking::{ask, check_texts, format_texts, simplify_texts};
 use filterset_display::Source as File;
@@ -50,13 +50,6 @@ fn input_of<R: Source>(
     }
 }
 
-/// Makes a file of standard input, which has this text, to draw faults of its lines in.
-fn input_file(alloc: Global, input: &str) -> Result<File<'_>, AllocError>
-    ensures { IfOk result (IsInputFile input.now) }
-{
-    File::new(alloc, INPUT_NAME, input)
-}
-
 /// Makes the entries of the filtersets: the arguments, or the lines of standard input, which is this file.
 fn entries_of<'t>(
     alloc: Global,
@@ -81,9 +74,25 @@ fn answer_with<F: FileSource>(
 ) -> Result<Answer, CommandFault>
     ensures answered { IfOk result (λ answer. Answers (F.content files.now) input.now request.now
         answer.ending (string_bytes answer.text)) }
-    ensures refused { IfErr result (OrMemory (Faults (F.content files.now) (F.fails files.now) input.now request.now)) }
+    ensures refused { IfErr result (OrMemory
+        (Faults (content_of (F.content files.now) input.now) (F.fails files.now) request.now)) }
 {
+    let file = File::new(alloc, INPUT_NAME, input)?;
     let files = WithInput { files, input };
+    answer_from(alloc, request, &files, &file)
+}
+
+/// Answers a request, where standard input is this file, if the request is about that.
+fn answer_from<F: FileSource>(
+    alloc: Global,
+    request: &Request<'_>,
+    files: &F,
+    file: &File<'_>,
+) -> Result<Answer, CommandFault>
+    ensures answered { IfOk result (λ answer. AnswersWith (F.content files.now) file.entry request.now
+        answer.ending (string_bytes answer.text)) }
+    ensures refused { IfErr result (OrMemory (Faults (F.content files.now) (F.fails files.now) request.now)) }
+{
     match request {
         Request::Check {
             kind,
@@ -91,22 +100,19 @@ fn answer_with<F: FileSource>(
             texts,
             paths,
         } => {
-            let file = input_file(alloc, input)?;
-            let given = entries_of(alloc, *kind, texts, &file)?;
-            check_texts(alloc, &files, *form, paths, given)
+            let given = entries_of(alloc, *kind, texts, file)?;
+            check_texts(alloc, files, *form, paths, given)
         }
         Request::Format { form, texts } => {
-            let file = input_file(alloc, input)?;
-            let given = entries_of(alloc, FiltersetKind::Test, texts, &file)?;
+            let given = entries_of(alloc, FiltersetKind::Test, texts, file)?;
             Ok(format_texts(alloc, *form, given.as_slice())?)
         }
         Request::Simplify { form, texts } => {
-            let file = input_file(alloc, input)?;
-            let given = entries_of(alloc, FiltersetKind::Test, texts, &file)?;
+            let given = entries_of(alloc, FiltersetKind::Test, texts, file)?;
             Ok(simplify_texts(alloc, *form, given.as_slice())?)
         }
-        Request::Decide(asked) => decide_given(alloc, &files, asked),
-        Request::Ask(asked) => ask(alloc, &files, asked),
+        Request::Decide(asked) => decide_given(alloc, files, asked),
+        Request::Ask(asked) => ask(alloc, files, asked),
         Request::Show(text) => Ok(Answer {
             text: String::from_str(alloc, text)?,
             ending: Ending::Fine,

@@ -136,11 +136,10 @@ pub fn greet<F: FileSource>(
         Named::Nothing => Ok(silent(alloc)),
         Named::Wrong => complaint(alloc, WRONG),
         Named::Paths(metadata, list) => {
-            let run_ignored = RunIgnored::All;
             let paths = WorkspacePaths {
                 metadata,
                 list,
-                run_ignored,
+                run_ignored: RunIgnored::All,
             };
             greet_from(alloc, files, &paths)
         }

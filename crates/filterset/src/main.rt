@@ -44,14 +44,8 @@ fn answer_request(rt: &HostRuntime, request: &Request<'_>) -> Result<Ended, Comm
     let mut input = FromReader::new(rt.stdin());
     let mut output = HostOutput::new(rt.stdout());
     let mut errors = HostOutput::new(rt.stderr());
-    let run = run(
-        rt.alloc(),
-        request,
-        &files,
-        &mut input,
-        &mut output,
-        &mut errors,
-    )?;
+    let alloc = rt.alloc();
+    let run = run(alloc, request, &files, &mut input, &mut output, &mut errors)?;
     match output.into_failure() {
         Some(error) => Err(CommandFault::Unwritten(error)),
         None => Ok(Ended::Answered(run.ending)),

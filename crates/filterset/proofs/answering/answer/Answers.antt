@@ -1,5 +1,6 @@
 use Rattle.std.proofs.{Common.inr, Common.string_bytes, lemmas.Result.IfErr-weaker, lemmas.Result.IfOk-weaker}
 use Rattle.filterset.specs.Requests.{Faults, IsFaultOf}
+use Rattle.filterset_loading.specs.Files.{content_of}
 use Rattle.filterset_loading.proofs.FaultLemmas.{OrMemory-weaker}
 use Rattle.filterset.proofs.answering.answer.Goals as goal
 
@@ -17,5 +18,5 @@ returns-clause-refused g c =
     let left = g.R.Source.left c.args.input.now in
     let failed = g.R.Source.failed c.input_of.new.input in
     let told = rw c.as_str.ensures.value at c.answer_with.ensures.refused in
-    IfErr-weaker c.answer_with.result _ _ (OrMemory-weaker (Faults content fails input request) (IsFaultOf content fails request left failed)
+    IfErr-weaker c.answer_with.result _ _ (OrMemory-weaker (Faults (content_of content input) fails request) (IsFaultOf content fails request left failed)
     (λ fault lacks. inr (input, c.in_ok-text.ensures.whole, lacks))) told
