@@ -31,7 +31,7 @@ put() {
 
 put_programs() {
     put 755 crates/filterset/out/filterset bin/filterset
-    put 755 crates/filterset_cli/out/filterset_cli bin/filterset-record
+    put 755 crates/filterset_cli/out/filterset_cli bin/filterset-cli
 }
 
 put_pages() {

@@ -33,18 +33,18 @@ needs_only_c() { ! objdump -p "$1" | awk '$1 == "NEEDED" { print $2 }' | grep -v
 try_programs() {
     echo 'not ! all()' > "$room/formatted"
     holds "filterset alone" writes "$room/formatted" filterset format 'not!all()'
-    holds "filterset-record alone" writes examples/first.report filterset-record < examples/first.json
+    holds "filterset-cli alone" writes examples/first.report filterset-cli < examples/first.json
     holds "the libraries of filterset" needs_only_c "$prefix/bin/filterset"
-    holds "the libraries of filterset-record" needs_only_c "$prefix/bin/filterset-record"
+    holds "the libraries of filterset-cli" needs_only_c "$prefix/bin/filterset-cli"
     mkdir "$room/programs"
     ln -s "$prefix/bin/filterset" "$room/programs/filterset"
-    ln -s "$prefix/bin/filterset-record" "$room/programs/filterset_cli"
+    ln -s "$prefix/bin/filterset-cli" "$room/programs/filterset_cli"
     holds "transcripts" scripts/examples.py --programs "$room/programs" examples/transcripts/{options,records}.md
 }
 
 # Prints the pages of manual that there must be.
 wanted_pages() {
-    echo filterset.1 filterset-record.1 filterset-record.5 nextest-filterset.7
+    echo filterset.1 filterset-cli.1 filterset-cli.5 nextest-filterset.7
     "$prefix/bin/filterset" --help | sed -n '/^Commands:/,/^$/s/^  \([a-z]*\) .*/\1/p' | grep -v '^help$' | sed 's/.*/filterset-&.1/'
 }
 

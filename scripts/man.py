@@ -1,7 +1,7 @@
 #!/usr/bin/env python3
 """Makes the manual pages out of docs/ and of what the built program says with --help: scripts/man.py FOLDER
 
-It writes filterset.1, filterset-COMMAND.1 for each command, filterset-record.1, filterset-record.5 and
+It writes filterset.1, filterset-COMMAND.1 for each command, filterset-cli.1, filterset-cli.5 and
 nextest-filterset.7 into FOLDER, in the macros of man(7). A command must have a section in docs/PROGRAM.md. The pages
 have the last date of CHANGELOG.md.
 """
@@ -28,7 +28,7 @@ SPAN = re.compile(r"`([^`]+)`|\*\*(.+?)\*\*|\[((?:`[^`]*`|[^\]`])*)\]\([^)]*\)")
 # An option or an argument in a help text, and what is said of it.
 OPTION = re.compile(r"^ {2,6}((?:-\w, )?[-<[].*?)(?: {2,}(.*))?$", re.M)
 # What pages call by its place in the repository, and what that is where the programs are installed.
-INSTALLED = [(r"\./filterset(?=`? <|\n)", "filterset-record"), (r"\./filterset\b", "filterset"),
+INSTALLED = [(r"\./filterset(?=`? <|\n)", "filterset-cli"), (r"\./filterset\b", "filterset"),
              (r"\$ data=.*\n", ""), (r"\$data/|crates/filterset/data/", "")]
 # What roff would take for something else, or set as another character.
 ROFF = {"\\": r"\e", "-": r"\-", "'": r"\(aq", "`": r"\(ga", "^": r"\(ha", "~": r"\(ti", '"': r"\(dq"}
@@ -140,21 +140,21 @@ def pages(program):
         "EXIT STATUS": table(statuses)[3:],
         "FILES": roff_of(section_of("Files")),
         **own.sections(),
-    }, [*(f"{page}.1" for page in commands), "filterset-record.1", "nextest-filterset.7"]
+    }, [*(f"{page}.1" for page in commands), "filterset-cli.1", "nextest-filterset.7"]
     for page, (name, said) in commands.items():
         yield f"{page}.1", said.about, {
             "SYNOPSIS": [rf"\fBfilterset {literal(said.usage)}\fR"],
             "DESCRIPTION": roff_of(section_of(f"`{name}`")),
             **said.sections(),
         }, ["filterset.1", "nextest-filterset.7"]
-    yield "filterset-record.1", "reads packages, tests and filtersets as JSON, and reports the answers", {
-        "SYNOPSIS": [r"\fBfilterset\-record\fR < \fIRECORD\fR"],
-        "DESCRIPTION": roff_of(section_of("`filterset_cli`, the program for scripts", is_whole=False)),
-    }, ["filterset-record.5", "filterset.1"]
-    yield "filterset-record.5", "the record that filterset-record reads, and the report that it writes", {
+    yield "filterset-cli.1", "reads packages, tests and filtersets as JSON, and reports the answers", {
+        "SYNOPSIS": [r"\fBfilterset\-cli\fR < \fIRECORD\fR"],
+        "DESCRIPTION": roff_of(section_of("`filterset_cli`, the program for records", is_whole=False)),
+    }, ["filterset-cli.5", "filterset.1"]
+    yield "filterset-cli.5", "the record that filterset-cli reads, and the report that it writes", {
         "THE RECORD": roff_of(section_of("The record")),
         "THE REPORT": roff_of(section_of("The report")),
-    }, ["filterset-record.1", "nextest-filterset.7"]
+    }, ["filterset-cli.1", "nextest-filterset.7"]
     yield "nextest-filterset.7", "the language of filtersets", {
         "DESCRIPTION": roff_of(text_of("docs/LANGUAGE.md").partition("\n")[2]),
     }, ["filterset.1", "filterset-check.1"]
