@@ -10,12 +10,7 @@ is_skipped Skipped = true
 
 -- the binary is that of the suite
 abbrev pub IsAsked : Suite → AskedBinary → Type 0
-IsAsked suite binary =
-    (binary.query.package_id.now ≡ suite.package_id)
-    × (binary.query.binary_id.now ≡ suite.binary_id)
-    × (binary.query.binary_name.now ≡ string_bytes suite.binary_name)
-    × (binary.query.kind.now ≡ suite.kind)
-    × (binary.query.platform ≡ suite.platform)
-    × (binary.tests.now ≡ suite.tests.items)
-    × (binary.uncounted.now ≡ suite.uncounted.items)
-    × (binary.is_skipped ≡ is_skipped suite.status)
+IsAsked suite binary = (binary.query.package_id.now ≡ suite.package_id) × (binary.query.binary_id.now ≡ suite.binary_id)
+    × (binary.query.binary_name.now ≡ string_bytes suite.binary_name) × (binary.query.kind.now ≡ suite.kind)
+    × (binary.query.platform ≡ suite.platform) × (binary.tests.now ≡ suite.tests.items)
+    × (binary.uncounted.now ≡ suite.uncounted.items) × (binary.is_skipped ≡ is_skipped suite.status)

@@ -66,8 +66,7 @@ Telling setting = Basis setting → List (Tree SourceSpan) → Ending → Text �
 abbrev pub AnswersTexts : Form → (setting : Setting) → List TextRow → Telling setting → Ending → Text → Type 0
 AnswersTexts form setting rows Tells ending text =
     ((basis : Basis setting) × (trees : List (Tree SourceSpan)) × AllZip (IsTreeOf setting) rows trees
-    × Tells basis trees ending text)
-    ⊎ ((faulty : ℕ) × (faulty ≢ 0) × (ending ≡ Faulty)
+    × Tells basis trees ending text) ⊎ ((faulty : ℕ) × (faulty ≢ 0) × (ending ≡ Faulty)
     × FaultsOf (HasRefusal setting.graph.now setting.groups.now) form 1 (setting_rows setting ++ rows) faulty text)
 
 -- ---- filtersets

@@ -116,8 +116,6 @@ fn push_texts(
 
 /// Checks texts: writes the faults of each, and for people at the end how many texts have faults and which names are not
 /// checked. Texts are numbered from 1.
-///
-/// Returns an error only if out of memory.
 pub fn check(
     alloc: Global,
     names: &Names<'_>,

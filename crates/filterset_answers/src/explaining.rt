@@ -14,7 +14,7 @@ use crate::compiling::{CompiledTexts, QuestionFiltersets, compile_texts};
 use crate::grouping::group_overrides;
 use filterset_display::Form;
 use filterset_entries::{Answer, Ending, Setting, entry_of, unknown_ending};
-use filterset_listing::{Candidate, GroupOverride, explain, explain_text};
+use filterset_listing::{Candidate, CompiledTree, GroupOverride, explain, explain_text};
 use nextest_filtering::{EvalContext, Filterset, FiltersetKind};
 use std::alloc::{AllocError, Global};
 use std::slice;
@@ -36,15 +36,12 @@ fn explain_parsed(
         answer.ending (string_bytes answer.text)) }
 {
     let context = EvalContext::new(&default.compiled);
-    let explanation = explain(
-        alloc,
-        setting.graph,
-        &filter.parsed,
-        &filter.compiled,
-        &context,
-        overrides,
-        candidate,
-    )?;
+    let compiled = CompiledTree {
+        tree: &filter.parsed,
+        compiled: &filter.compiled,
+    };
+    let graph = setting.graph;
+    let explanation = explain(alloc, graph, compiled, &context, overrides, candidate)?;
     Ok(Answer {
         text: explain_text(alloc, &explanation)?,
         ending: unknown_ending(explanation.is_unknown()),
@@ -94,8 +91,6 @@ fn explain_compiled(
 
 /// Explains a filterset for a binary or a test, or writes the faults of its text and of those of the setting. Below the
 /// explanation it says so if the test `is_ignored`.
-///
-/// Returns an error only if out of memory.
 pub fn explain_filterset(
     alloc: Global,
     form: Form,

@@ -1,5 +1,5 @@
-//! What the commands answer about filtersets: their faults, the tests that they pick, how two differ, why one picks a test or
-//! not, and how the overrides of a configuration apply to tests. For `filterset_asking` and `filterset_verdicts`.
+//! Answers about filtersets. Texts, a setting and test binaries go in; a text and how the command ends come out: faults, the
+//! tests that are picked, how two differ, why, and how overrides apply. For `filterset_asking` and `filterset_verdicts`.
 #![tactic(auto)]
 
 mod binaries;

@@ -18,8 +18,8 @@ use crate::picks::{AskedTests, expressions_of, picks_of};
 use filterset_display::Form;
 use filterset_entries::{Answer, Ending, Setting, unknown_ending};
 use filterset_listing::{
-    BinaryPicks, Candidate, explain, explain_text, lists_unknown, push_some, uncounted_count,
-    unknown_count,
+    BinaryPicks, Candidate, CompiledTree, explain, explain_text, lists_unknown, push_some,
+    uncounted_count, unknown_count,
 };
 use filterset_overrides::{
     AskedOverride, ListedBinary, OverrideTable, any_unknown, any_unknown_test, count_overrides,
@@ -129,17 +129,13 @@ fn reason_of<'x>(
 {
     match made {
         Some(filter) => {
-            let (tree, compiled) = (&filter.parsed, &filter.compiled);
+            let compiled = CompiledTree {
+                tree: &filter.parsed,
+                compiled: &filter.compiled,
+            };
+            let graph = setting.graph;
             let candidate = Candidate::Test(*query);
-            let explanation = explain(
-                alloc,
-                setting.graph,
-                tree,
-                compiled,
-                context,
-                &[],
-                candidate,
-            )?;
+            let explanation = explain(alloc, graph, compiled, context, &[], candidate)?;
             explain_text(alloc, &explanation)
         }
         None => Ok(String::new(alloc)),

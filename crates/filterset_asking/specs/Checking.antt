@@ -60,8 +60,7 @@ ChecksAll content form names paths texts given ending text =
 abbrev pub AnswersCheck : (Text → Option Text) → Form → CheckPaths → List TextRow → Ending → Text → Type 0
 AnswersCheck content form paths given ending text =
     (packages : List PackageMetadata) × (bytes : Text) × (configuration : Configuration) × (places : Places)
-    × (texts : ConfiguredTexts) × (names : Names)
-    × KnownPackages content paths.metadata packages
+    × (texts : ConfiguredTexts) × (names : Names) × KnownPackages content paths.metadata packages
     × KnownConfiguration content paths.configuration bytes configuration places.places.items
     × AreTextsOf (file_name paths.configuration) bytes configuration.filtersets.items places texts
     × KnowsNames (is_some paths.metadata) packages (is_some paths.configuration)
@@ -85,8 +84,7 @@ IsUnchecked content fails packages paths bytes fault =
 abbrev pub IsCheckFault : (Text → Option Text) → (Text → Error → Type 0) → CheckPaths → CommandFault → Type 0
 IsCheckFault content fails paths fault =
     IsSomeAnd paths.configuration (λ path. IsFileFault content fails roles.Configuration
-    (BySource RefusesConfiguration) path.now fault)
-    ⊎ IsSomeAnd paths.metadata
+    (BySource RefusesConfiguration) path.now fault) ⊎ IsSomeAnd paths.metadata
     (λ path. IsFileFault content fails roles.Metadata (RefusesValue RefusesMetadata) path.now fault)
     ⊎ ((packages : List PackageMetadata) × (bytes : Text) × (configuration : Configuration) × (places : Places)
     × KnownPackages content paths.metadata packages

@@ -47,8 +47,7 @@ AnswersListed content form end packages groups path texts rows request ending te
 -- if no list is requested, how many warnings there are, if there are any
 abbrev pub AnswersWarned : (Text → Option Text) → Form → WarningEnd → List PackageMetadata → KnownGroups → Option (Bor Text)
     → ConfiguredTexts → List TextRow → Option WarningRequest → Ending → Text → Type 0
-AnswersWarned content form end packages groups path texts rows request ending text =
-    MatchOption request
+AnswersWarned content form end packages groups path texts rows request ending text = MatchOption request
     ((ending ≡ warned_ending end.denies end.before) × (text ≡ (if end.before == 0 then [] else summary form 0 end.before)))
     (λ r. AnswersListed content form end packages groups path texts rows r ending text)
 

@@ -1,5 +1,5 @@
-//! Reads a record of filtersets from standard input, and writes its report to standard output: what the library says about
-//! each filterset of the record, or why the record is refused.
+//! The program for records. A record of filtersets goes in on standard input; its report comes out on standard output: what
+//! the library says of each filterset, or why the record is refused. For programs and scripts.
 #![tactic(auto)]
 
 mod listed;

@@ -57,6 +57,15 @@ fn refusal(alloc: Global, line: &str) -> Result<(String, ReportOutcome), AllocEr
     Ok((String::from_str(alloc, line)?, ReportOutcome::RecordRefused))
 }
 
+/// What a record asks of its packages and groups.
+#[derive(Drop)]
+struct Questions {
+    filtersets: Vec<FiltersetEntry>,
+    default_filter: String,
+    binaries: Vec<BinaryEntry>,
+    command: Command,
+}
+
 /// Writes the report of a record.
 fn report_record(alloc: Global, entries: Record) -> Result<(String, ReportOutcome), AllocError>
     ensures { IfOk result (λ made. RecordReport (record_row entries) (string_bytes made.0) made.1) }
@@ -74,15 +83,13 @@ fn report_record(alloc: Global, entries: Record) -> Result<(String, ReportOutcom
         Err(refusal) => return Ok((packages_line(alloc, refusal)?, ReportOutcome::RecordRefused)),
     };
     let known_groups = KnownGroups::of(alloc, groups)?;
-    report_filtersets(
-        alloc,
-        &graph,
-        known_groups,
-        default_filter,
+    let asked = Questions {
         filtersets,
-        &binaries,
+        default_filter,
+        binaries,
         command,
-    )
+    };
+    report_filtersets(alloc, &graph, known_groups, asked)
 }
 
 /// Writes the line that says why packages make no graph.
@@ -106,22 +113,26 @@ fn report_filtersets(
     alloc: Global,
     graph: &PackageGraph,
     known_groups: KnownGroups,
-    default_filter: String,
-    filtersets: Vec<FiltersetEntry>,
-    binaries: &[BinaryEntry],
-    command: Command,
+    asked: Questions,
 ) -> Result<(String, ReportOutcome), AllocError>
     requires graph { AllDiffer (ids graph.now) × LinksKnown graph.now }
     requires known { IsKnown known_groups }
     ensures { IfOk result (λ made. (names : List Text) → AreGroups names known_groups → RecordReport (record {
-      filtersets = map filterset_row filtersets.items;
+      filtersets = map filterset_row asked.filtersets.items;
       packages = graph.now;
       groups = names;
-      default_filter = string_bytes default_filter;
-      binaries = map binary_row binaries.now;
-      command = command;
+      default_filter = string_bytes asked.default_filter;
+      binaries = map binary_row asked.binaries.items;
+      command = asked.command;
     }) (string_bytes made.0) made.1) }
 {
+    let Questions {
+        filtersets,
+        default_filter,
+        binaries,
+        command,
+    } = asked;
+    let binaries = binaries.as_slice();
     let parse_context = ParseContext::new(alloc, graph)?;
     let kind = FiltersetKind::DefaultFilter;
     match Filterset::parse(alloc, default_filter, &parse_context, kind, &known_groups) {

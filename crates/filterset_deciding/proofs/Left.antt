@@ -1,6 +1,6 @@
 -- What is left of a tree has its predicates and operators, in their order.
-use Rattle.std.proofs.Common.{Bool, true, false, List, [], ◌∷◌, ◌++◌}
-use Rattle.std.proofs.lemmas.List.Elements.{All-append, All-cons, All-head, All-nil, All-tail}
+use Rattle.std.proofs.Common.{Bool, true, false, List, ◌++◌, length, refl, sym}
+use Rattle.std.proofs.lemmas.List.{drop_at, take_at, Elements.All-append, Elements.All-drop, Elements.All-same, Elements.All-take}
 use Rattle.std.specs.Prelude.{All, Option, Some, None}
 use Rattle.filterset_grammar.specs.AddedParens as added
 use Rattle.filterset_grammar.specs.AddedParens.{IsEnclosedUnless, IsWithParens, HasWellFormedLeaves}
@@ -25,10 +25,8 @@ stripped (Not op e) = e
 stripped e = e
 
 both_all : {X : Type 0} (P : X → Type 0) (xs ys : List X) → All P (xs ++ ys) → All P xs × All P ys
-both_all P [] ys all = (All-nil P, all)
-both_all P (x ∷ xs) ys all =
-    let rest = both_all P xs ys (All-tail P x (xs ++ ys) all) in
-    (All-cons P x xs (All-head P x (xs ++ ys) all) rest.0, rest.1)
+both_all P xs ys all =
+    (All-same P _ _ (sym (take_at xs ys _ refl)) (All-take P (length xs) _ all), All-same P _ _ (sym (drop_at xs ys _ refl)) (All-drop P (length xs) _ all))
 
 module _ {S : Type 0} where
   unnegated : {e d : Tree S} → IsLeftOf e d → IsLeftOf e (stripped d)

@@ -70,7 +70,7 @@ part c _ _ = []
 abbrev pub part_of : ℕ → Demand → List ℕ
 part_of c demand = part c (matcher_in demand) demand.is_matched
 
--- all texts that have to be contained, the character before each and behind the last
+-- all texts that have to be contained, the character before each and after the last
 abbrev pub joined : ℕ → List Demand → List ℕ
 joined c demands = flat_map (part_of c) demands ++ c ∷ []
 

@@ -21,7 +21,7 @@ pub enum Verdict<'x> {
     Always,
     /// The answer is no for this test.
     Fails(Witness),
-    /// The search found no such test, but could not exclude that there is one. What it hangs on, in one place at least.
+    /// The search found no such test, but could not exclude that there is one. What it depends on, in one place at least.
     Unknown(Doubt<'x>),
     /// The search came to the end of its budget.
     Stopped,

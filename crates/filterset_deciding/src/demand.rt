@@ -31,7 +31,7 @@ pub struct Demand<'x> {
     pub is_matched: bool,
 }
 
-/// Why an answer is unknown: it hangs on whether some text meets all of these demands at once.
+/// Why an answer is unknown: it depends on whether some text meets all of these demands at once.
 #[derive(Debug)]
 pub struct Doubt<'x> {
     /// The text of a test.

@@ -25,7 +25,7 @@ mod witness;
 
 pub use deciding::{Verdict, decide};
 pub use demand::{Demand, Doubt, TestField};
-pub use listed::find_listed;
+pub use listed::{ListedTests, find_listed};
 pub use question::Question;
 pub use simplifying::simplify;
 pub use witness::{PossibleTest, Witness};

@@ -13,6 +13,23 @@ use filterset_expression::{CompiledExpr, EvalContext, FlatExpr, TestQuery};
 use filterset_graph::{RustBinaryId, RustTestBinaryKind, TestCaseName};
 use std::alloc::{AllocError, Global};
 
+/// Tests of a list, and the groups that each may be in.
+#[derive(Clone, Copy, Debug)]
+pub struct ListedTests<'l> {
+    pub tests: &'l [TestQuery<'l>],
+    pub groups: &'l [&'l str],
+}
+
+impl<'l> ListedTests<'l> {
+    /// Returns these tests, each of which may be in these groups.
+    pub fn of(tests: &'l [TestQuery<'l>], groups: &'l [&'l str]) -> ListedTests<'l>
+        ensures tests { result.tests.now ≡ tests.entry.now }
+        ensures groups { result.groups.now ≡ groups.entry.now }
+    {
+        ListedTests { tests, groups }
+    }
+}
+
 /// A question, with its filtersets laid out for many tests.
 #[derive(Drop)]
 struct LaidQuestion<'x> {
@@ -140,19 +157,19 @@ pub fn find_listed<'x>(
     exprs: &[&'x CompiledExpr],
     cx: &EvalContext<'x>,
     question: Question,
-    tests: &[TestQuery<'_>],
-    groups: &[&str],
+    listed: ListedTests<'_>,
 ) -> Result<Option<Witness>, AllocError>
     ensures some { IfOk result (λ found. IfSome found (λ witness. IsFirstUnmet question given.now (default_of cx.now) exprs.now
-        tests.now groups.now witness.test witness.picks.items)) }
-    ensures none { IfOk result (λ found.
-        IfNone found (IsMetByAll question given.now (default_of cx.now) exprs.now tests.now groups.now)) }
+        listed.entry.tests.now listed.entry.groups.now witness.test witness.picks.items)) }
+    ensures none { IfOk result (λ found. IfNone found (IsMetByAll question given.now (default_of cx.now) exprs.now
+        listed.entry.tests.now listed.entry.groups.now)) }
 {
     let laid = LaidQuestion {
         question,
         given: FlatExpr::new(alloc, given, cx)?,
         exprs: lay_out(alloc, exprs, cx)?,
     };
+    let ListedTests { tests, groups } = listed;
     let asked = laid.groups_to_ask(groups);
     for test in tests {
         if let Some(witness) = laid.find_in_groups(alloc, test, asked)? {

@@ -34,7 +34,7 @@ pub(crate) struct Asked<'e, 'x> {
 pub(crate) enum Explored<'x> {
     /// It has no such test, but for those of the branches that were added.
     Closed,
-    /// It may have such a test. What that hangs on.
+    /// It may have such a test. What that depends on.
     Left(Doubt<'x>),
     /// The search for a text was stopped.
     Stopped,
@@ -46,7 +46,7 @@ pub(crate) enum Explored<'x> {
 pub(crate) enum Searched<'x> {
     /// There is no such test.
     Nothing,
-    /// Some branch may have such a test. What that hangs on.
+    /// Some branch may have such a test. What that depends on.
     Unknown(Doubt<'x>),
     /// The search was stopped before its end.
     Stopped,

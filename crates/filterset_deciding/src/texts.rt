@@ -208,7 +208,7 @@ fn push_part(text: &mut String, c: u8, demand: Demand<'_>) -> Result<(), AllocEr
     text.push_str(value.as_str())
 }
 
-/// Joins all texts that have to be contained, with the character before each and behind the last.
+/// Joins all texts that have to be contained, with the character before each and after the last.
 fn join_parts(alloc: Global, demands: &[Demand<'_>], c: u8) -> Result<String, AllocError>
     requires { c < 128 }
     ensures { IfOk result (λ text. string_bytes text ≡ joined c demands.now) }

@@ -46,7 +46,7 @@ MayDifferOn one other b =
 abbrev pub TellsDifference : Picker → Picker → List AskedBinary → Bool → Type 0
 TellsDifference one other binaries answer = IsTrue answer ↔ Any (MayDifferOn one other) binaries
 
--- a test of the binary is unknown to one of them, and hangs on the override at some path
+-- a test of the binary is unknown to one of them, and depends on the override at some path
 abbrev pub IsUnknownOn : Picker → Picker → AskedBinary → Type 0
 IsUnknownOn one other b = Any (λ test. (path : Bor Text)
     × (one.Says b.query test (answers.Unknown path) ⊎ other.Says b.query test (answers.Unknown path))) b.tests.now

@@ -24,13 +24,13 @@ IsExplained Has packages node explained = (explained.depth ≡ node.0) × (tree_
 abbrev pub has_unknown : List ExplainedNode → Bool
 has_unknown nodes = list_any (λ n. is_none n.value) nodes
 
--- if a node of a test is unknown, this is the path of the override that it hangs on, and else there is none
+-- if a node of a test is unknown, this is the path of the override that it depends on, and else there is none
 abbrev pub NamesOverride : Candidate → List GroupOverride → CompiledExpr → Bool → Option (Bor Text) → Type 0
 NamesOverride (Test query) overrides default true (Some path) = HangsOn default overrides query path.now
 NamesOverride (Test query) overrides default true None = ⊥
 NamesOverride candidate overrides default has_unknown path = path ≡ None
 
--- each node of the tree is explained, and the override is named that unknown ones hang on
+-- each node of the tree is explained, and the override is named that unknown ones depend on
 abbrev pub IsExplanation : Candidate → List GroupOverride → List PackageMetadata → CompiledExpr → Tree SourceSpan → Explanation → Type 0
 IsExplanation candidate overrides packages default e explanation =
     AllZip (IsExplained (HasValue candidate overrides packages default) packages) (tree_nodes 0 e) explanation.nodes.items

@@ -34,7 +34,7 @@ HangsOn default (over ∷ overrides) test path = (Applies default test over None
     ⊎ (¬ Applies default test over None × HangsOn default overrides test path)
 
 -- The answer about a test: known if it is the same for each group that the test may be in. If it is so for one group and
--- not for another, the answer is unknown, and hangs on the override at this path.
+-- not for another, the answer is unknown, and depends on the override at this path.
 abbrev pub IsAnswer : CompiledExpr → List GroupOverride → TestQuery → (Text → Type 0) → TestAnswer → Type 0
 IsAnswer default overrides test Is (Known answer) = (g : Text) → MayBeIn default overrides test g → IsTrue answer ↔ Is g
 IsAnswer default overrides test Is (Unknown path) = HangsOn default overrides test path.now

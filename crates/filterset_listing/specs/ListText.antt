@@ -16,7 +16,7 @@ has_unknown picks = not (length picks.unknown.items == 0)
 abbrev pub is_open : BinaryPicks → Bool
 is_open picks = picks.binary.is_skipped && not picks.is_left_out
 
--- why a test is unknown, by the path of the override that it hangs on; so it stands in nextest's list too
+-- why a test is unknown, by the path of the override that it depends on; so it stands in nextest's list too
 abbrev pub reason : Text → Text
 reason path = codes "platform of " ++ path
 

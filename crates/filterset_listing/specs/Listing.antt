@@ -29,7 +29,7 @@ tests_of picks = map (λ t. t.now) picks.tests.items
 abbrev pub uncounted_of : BinaryPicks → List Text
 uncounted_of picks = picks.binary.uncounted.now
 
--- the unknown tests, each with the path of the override that it hangs on
+-- the unknown tests, each with the path of the override that it depends on
 abbrev pub unknown_of : BinaryPicks → List (Text × Text)
 unknown_of picks = map (λ u. (u.test.now, u.path.now)) picks.unknown.items
 

@@ -58,7 +58,7 @@ abbrev pub NeverApplies : CompiledExpr → GroupOverride → BinaryQuery → Typ
 NeverApplies default over binary = (test : TestQuery) → test.binary_query ≡ binary
     → ¬ Applies default test over (Some true) × ¬ Applies default test over None
 
--- the one overrides and the others put each test of the binary in the same groups, and it hangs on the same override
+-- the one overrides and the others put each test of the binary in the same groups, and it depends on the same override
 abbrev pub SameGroups : CompiledExpr → BinaryQuery → List GroupOverride → List GroupOverride → Type 0
 SameGroups default binary overrides others = (test : TestQuery) → test.binary_query ≡ binary → (text : Text)
     → (MayBeIn default others test text ↔ MayBeIn default overrides test text)
@@ -80,7 +80,7 @@ Finishes default test Is (Some seen) overrides (Known answer) =
 Finishes default test Is (Some seen) overrides (Unknown path) = (path ≡ seen.path)
     × ((group : Text) × MayBeIn default overrides test group × MatchBool seen.answer (¬ Is group) (Is group))
 
--- the walk ends at this override with an answer, or goes on behind it
+-- the walk ends at this override with an answer, or goes on after it
 abbrev pub StepsOn : CompiledExpr → TestQuery → (Text → Type 0) → GroupOverride → Option Seen → Step → Type 0
 StepsOn default test Is over seen (Decided answer) =
     (rest : List GroupOverride) → Finishes default test Is seen (over ∷ rest) answer

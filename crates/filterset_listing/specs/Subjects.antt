@@ -18,7 +18,7 @@ abbrev pub AreOfTest : CompiledExpr → List GroupOverride → TestQuery → Lis
 AreOfTest default overrides test subjects = All (λ s. s.candidate ≡ Test test) subjects
     × AreGroupsOf default overrides test (map (λ s. s.group.now) subjects)
 
--- If the test may be in several groups, this is the path of the override that it hangs on. It is in one, if there is none.
+-- If the test may be in several groups, this is the path of the override that it depends on. It is in one, if there is none.
 abbrev pub HangsBy : CompiledExpr → List GroupOverride → TestQuery → List Subject → Option (Bor Text) → Type 0
 HangsBy default overrides test subjects (Some path) = HangsOn default overrides test path.now
 HangsBy default overrides test subjects None = (subject : Subject) × (subjects ≡ subject ∷ [])

@@ -146,8 +146,6 @@ fn difference_of<'s>(
 
 /// Compares two filtersets on each binary, also if nextest skipped it: then by their answers about the binary. The
 /// overrides say in which groups tests are; without overrides every test is in the group `@global`.
-///
-/// Returns an error only if out of memory.
 pub fn compare<'s, 'e>(
     alloc: Global,
     first: &'e CompiledExpr,

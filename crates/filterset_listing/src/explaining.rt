@@ -22,6 +22,13 @@ use filterset_graph::PackageGraph;
 use filterset_language::{ParsedExpr, ParsedNode};
 use std::alloc::{AllocError, Global};
 
+/// A tree, and what it is compiled to.
+#[derive(Clone, Copy, Debug)]
+pub struct CompiledTree<'t> {
+    pub tree: &'t ParsedExpr,
+    pub compiled: &'t CompiledExpr,
+}
+
 /// A node of a tree: a predicate, or an operator with its operands.
 #[derive(Debug, Drop)]
 pub struct ExplainedNode<'t> {
@@ -40,7 +47,7 @@ pub struct ExplainedNode<'t> {
 pub struct Explanation<'t, 'g> {
     /// The nodes of the filterset's tree, each before its operands.
     pub nodes: Vec<ExplainedNode<'t>>,
-    /// If a node of a test is unknown, the path of the override that this hangs on: the first one that picks the test and
+    /// If a node of a test is unknown, the path of the override that this depends on: the first one that picks the test and
     /// whose platforms are unknown.
     pub unknown_platform: Option<&'g str>,
 }
@@ -133,20 +140,21 @@ fn has_unknown(nodes: &[ExplainedNode<'_>]) -> bool
 
 /// Explains a filterset for a binary or a test: returns the nodes of its tree, each before its operands, with its value.
 ///
-/// `compiled` is what the tree is compiled to. For a test a value is unknown if it depends on the group of the test, and
-/// that depends on the platform of an override. Returns an error only if out of memory.
+/// For a test a value is unknown if it depends on the group of the test, and that depends on the platform of an override.
+/// Returns an error only if out of memory.
 pub fn explain<'t, 'g>(
     alloc: Global,
     graph: &'t PackageGraph,
-    tree: &'t ParsedExpr,
-    compiled: &'t CompiledExpr,
+    filterset: CompiledTree<'t>,
     context: &EvalContext<'g>,
     overrides: &[GroupOverride<'g>],
     candidate: Candidate<'g>,
 ) -> Result<Explanation<'t, 'g>, AllocError>
-    ensures { IfOk result (λ explanation. IsCompiled graph.now (tree_of tree.now) compiled.now
-        → IsExplanation candidate.entry overrides.now graph.now (default_of context.now) (tree_of tree.now) explanation) }
+    ensures { IfOk result (λ explanation. let tree = tree_of filterset.entry.tree.now in
+        IsCompiled graph.now tree filterset.entry.compiled.now
+        → IsExplanation candidate.entry overrides.now graph.now (default_of context.now) tree explanation) }
 {
+    let CompiledTree { tree, compiled } = filterset;
     let (subjects, path) = subjects_for(alloc, overrides, context, candidate)?;
     let asked = Asked {
         context: *context,

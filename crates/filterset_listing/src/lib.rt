@@ -1,6 +1,6 @@
-//! Which tests of a list a filterset picks, how two filtersets differ on it, why a filterset picks a test or not, and what
-//! the list says of the filterset: predicates that match none of its tests, and operands that change nothing. For commands
-//! and editors.
+//! Filtersets and lists of tests. Compiled filtersets and test binaries go in; the tests that they pick, how two differ, why
+//! one picks a test, predicates that match no test and operands that change nothing come out. For the commands and for
+//! editors.
 #![tactic(auto)]
 
 mod binary;
@@ -26,7 +26,7 @@ pub use counting::push_some;
 pub use explaining::candidate::Candidate;
 pub use explaining::packages::NamedPackages;
 pub use explaining::text::explain_text;
-pub use explaining::{ExplainedNode, Explanation, explain};
+pub use explaining::{CompiledTree, ExplainedNode, Explanation, explain};
 pub use groups::{GroupOverride, TestAnswer};
 pub use hints::{Hints, find_hints};
 pub use listing::json::list_json;

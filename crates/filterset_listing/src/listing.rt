@@ -27,7 +27,7 @@ use std::alloc::{AllocError, Global};
 #[derive(Clone, Copy, Debug)]
 pub struct UnknownTest<'s, 'g> {
     pub test: &'s TestCaseName,
-    /// The path of the override that it hangs on: the first one that picks the test and whose platforms are unknown.
+    /// The path of the override that it depends on: the first one that picks the test and whose platforms are unknown.
     pub path: &'g str,
 }
 
@@ -100,8 +100,6 @@ fn picks_of<'s, 'g>(
 ///
 /// The filterset is asked about a binary first. If that decides the binary, it is asked about none of the tests. Overrides
 /// are asked only if the filterset has a `group` predicate.
-///
-/// Returns an error only if out of memory.
 pub fn list<'s, 'g>(
     alloc: Global,
     expr: &CompiledExpr,

@@ -40,8 +40,6 @@ fn union_of(alloc: Global, exprs: Vec<CompiledExpr>) -> Result<Box<CompiledExpr>
 
 /// Returns the set of the tests that a runner runs: those that at least one of the filtersets picks, or all tests if
 /// there is no filterset, and of these only those that the default filter picks, unless `ignores_default`.
-///
-/// Returns an error only if out of memory.
 pub fn selection_of(
     alloc: Global,
     exprs: Vec<CompiledExpr>,

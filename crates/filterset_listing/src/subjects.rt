@@ -49,7 +49,7 @@ impl Subject<'_> {
 }
 
 /// Adds the test in each group that it may be in, where `rows` are the overrides that may apply to tests of its binary. Returns
-/// the path of the override that its group hangs on: the first one that picks it and whose platforms are unknown.
+/// the path of the override that its group depends on: the first one that picks it and whose platforms are unknown.
 fn push_test<'s>(
     subjects: &mut Vec<Subject<'s>>,
     alloc: Global,
@@ -114,7 +114,7 @@ fn push_binary<'s>(
 }
 
 /// Returns what a filterset is asked about for a binary or a test, and for a test that may be in several groups the path of
-/// the override that this hangs on.
+/// the override that this depends on.
 pub fn subjects_for<'s>(
     alloc: Global,
     overrides: &[GroupOverride<'s>],

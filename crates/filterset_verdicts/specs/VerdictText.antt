@@ -51,8 +51,7 @@ origin_line is_listed = if is_listed then codes "a test of the list:\n" else cod
 
 -- a test, of the list or a possible one, of the package with this name
 abbrev pub test_text : Bool → Text → PossibleTest → Text
-test_text is_listed name test =
-    origin_line is_listed ++ (field_line (codes "package") name
+test_text is_listed name test = origin_line is_listed ++ (field_line (codes "package") name
     ++ (field_line (codes "binary id") test.binary_id ++ (field_line (codes "binary") (string_bytes test.binary_name)
     ++ (field_line (codes "kind") test.kind ++ (field_line (codes "platform") (platform_text test.platform)
     ++ (field_line (codes "test") test.test_name ++ field_line (codes "group") (string_bytes test.group)))))))

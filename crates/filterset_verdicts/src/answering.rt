@@ -12,7 +12,7 @@ use crate::listed::{group_names, listed_tests};
 use crate::reasons::push_reasons_of;
 use crate::text::{Decided, answer_text, ending_of};
 use filterset_answers::{CompiledTexts, compile_texts};
-use filterset_deciding::{Question, Verdict, Witness, decide, find_listed};
+use filterset_deciding::{ListedTests, Question, Verdict, Witness, decide, find_listed};
 use filterset_display::Form;
 use filterset_entries::{Answer, Ending, Setting, TextEntry};
 use filterset_sources::Suite;
@@ -56,15 +56,8 @@ fn find_shown<'x>(
 {
     let tests = listed_tests(alloc, asked.suites)?;
     let names = group_names(alloc, groups)?;
-    find_listed(
-        alloc,
-        within,
-        exprs,
-        context,
-        asked.question,
-        tests.as_slice(),
-        names.as_slice(),
-    )
+    let listed = ListedTests::of(tests.as_slice(), names.as_slice());
+    find_listed(alloc, within, exprs, context, asked.question, listed)
 }
 
 /// Makes the answer of a verdict: in lines for people with the reasons of each filterset below its test.
@@ -148,8 +141,7 @@ fn decide_filtersets<'x>(
 
 /// Answers a question about filtersets and every possible test, or writes the faults of their texts and of the default
 /// filter. If the answer is no for a test of the list in a known group, the first such test is shown, and else a possible test.
-///
-/// The setting has no overrides, since a test counts in every group. Returns an error only if out of memory.
+/// The setting has no overrides, since a test counts in every group.
 pub fn answer_texts(
     alloc: Global,
     form: Form,

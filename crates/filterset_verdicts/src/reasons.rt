@@ -8,7 +8,7 @@ ghost use Rattle.filterset_verdicts.specs.Reasons.{AreReasons, IsReasonOf, PutsA
 
 use filterset_deciding::Verdict;
 use filterset_graph::PackageGraph;
-use filterset_listing::{Candidate, GroupOverride, explain, explain_text};
+use filterset_listing::{Candidate, CompiledTree, GroupOverride, explain, explain_text};
 use nextest_filtering::{EvalContext, Filterset, TestQuery};
 use std::alloc::{AllocError, Global};
 use std::fmt::Write;
@@ -52,15 +52,12 @@ fn explain_in<'x>(
 {
     let over = put_all(group);
     let overrides = slice::from_ref(&over);
-    let explanation = explain(
-        alloc,
-        graph,
-        &filterset.parsed,
-        &filterset.compiled,
-        context,
-        overrides,
-        Candidate::Test(*query),
-    )?;
+    let compiled = CompiledTree {
+        tree: &filterset.parsed,
+        compiled: &filterset.compiled,
+    };
+    let candidate = Candidate::Test(*query);
+    let explanation = explain(alloc, graph, compiled, context, overrides, candidate)?;
     let text = explain_text(alloc, &explanation)?;
     indent(alloc, text.as_str())
 }

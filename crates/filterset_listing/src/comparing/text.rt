@@ -96,8 +96,6 @@ fn uncounted_count(all: &[BinaryDifference<'_>]) -> Result<usize, AllocError>
 /// and how many were not compared, because one of the filtersets does not decide them. It leaves out a number that is 0.
 /// With `has_names` it writes the ids of the binaries under each number. Last it writes how many tests do not count, if there
 /// are any.
-///
-/// Returns an error only if out of memory.
 pub fn comparison_text(
     alloc: Global,
     all: &[BinaryDifference<'_>],

@@ -94,8 +94,6 @@ fn nodes_text(alloc: Global, nodes: &[ExplainedNode<'_>]) -> Result<String, Allo
 ///
 /// A node under more than 32 operators is indented as one under 32, after their number in brackets. So the text of a long
 /// chain grows with the number of its operands, and not with the square.
-///
-/// Returns an error only if out of memory.
 pub fn explain_text(alloc: Global, explanation: &Explanation<'_, '_>) -> Result<String, AllocError>
     ensures { IfOk result (λ text. string_bytes text ≡ explanation_text explanation.now) }
 {

@@ -254,8 +254,6 @@ impl Mark for ListMark<'_, '_, '_> {
 /// `expression`; `default-filter`, of a test that is picked `beyond` the default filter. If it is unknown whether a test is
 /// picked, it has for example `{"reason":"platform of profile.ci.overrides[1]","status":"unknown"}`. All else is as nextest
 /// wrote it. The picks are those of the suites of the list, in the order of their ids.
-///
-/// Returns an error only if out of memory.
 pub fn list_json<'s, 'g>(
     alloc: Global,
     list: Value,

@@ -116,8 +116,6 @@ fn push_counts(output: &mut String, all: &[BinaryPicks<'_, '_>]) -> Result<(), A
 /// unknown. A binary that nextest skipped is written as skipped, unless it is left out. The last line says how many tests
 /// of how many binaries there are, how many binaries were left out without asking about their tests, and, if there are any,
 /// how many tests are unknown and how many do not count.
-///
-/// Returns an error only if out of memory.
 pub fn list_text(alloc: Global, all: &[BinaryPicks<'_, '_>]) -> Result<String, AllocError>
     ensures { IfOk result (λ text. string_bytes text ≡ list_text all.now) }
 {

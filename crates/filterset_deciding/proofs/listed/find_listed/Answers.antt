@@ -8,7 +8,7 @@ use Rattle.filterset_deciding.proofs.listed.find_listed.Goals as goal
 
 pub loop-test-preserved : goal.loop-test-preserved
 loop-test-preserved c =
-    let tests = c.args.tests.now in
+    let tests = c.args.listed.tests.now in
     let i = c.loop-test.test-index in
     let test = c.test-item.result in
     let laid : LaidQuestion = record { question = c.args.question; given = c.in_ok-new.field-0; exprs = c.in_ok-lay_out.field-0 } in
@@ -22,14 +22,14 @@ returns-clause-none c =
     let laid : LaidQuestion = record { question = c.args.question; given = c.in_ok-new.field-0; exprs = c.in_ok-lay_out.field-0 } in
     let default = default_of c.args.cx.now in
     let of : AreOfQuestion c.args.given.now default c.args.exprs.now laid = record { given_laid = c.in_ok-new.ensures.flat; exprs_laid = c.in_ok-lay_out.ensures } in
-    let met = rw (take_all c.loop-test.test-index c.args.tests.now c.loop-test-test.false) at c.loop-test.invariant in
-    met_by_all laid c.args.given.now default c.args.exprs.now c.args.tests.now c.args.groups.now of
-    (λ k d lt. c.groups_to_ask-asked.ensures.enough (get_or c.args.tests.now k d) (met k d lt))
+    let met = rw (take_all c.loop-test.test-index c.args.listed.tests.now c.loop-test-test.false) at c.loop-test.invariant in
+    met_by_all laid c.args.given.now default c.args.exprs.now c.args.listed.tests.now c.args.listed.groups.now of
+    (λ k d lt. c.groups_to_ask-asked.ensures.enough (get_or c.args.listed.tests.now k d) (met k d lt))
 
 pub returns-in-Some-clause-some : goal.returns-in-Some-clause-some
 returns-in-Some-clause-some c =
-    let tests = c.args.tests.now in
-    let groups = c.args.groups.now in
+    let tests = c.args.listed.tests.now in
+    let groups = c.args.listed.groups.now in
     let i = c.loop-test.test-index in
     let test = c.test-item.result in
     let laid : LaidQuestion = record { question = c.args.question; given = c.in_ok-new.field-0; exprs = c.in_ok-lay_out.field-0 } in

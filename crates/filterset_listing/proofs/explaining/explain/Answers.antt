@@ -9,7 +9,7 @@ use Rattle.filterset_listing.proofs.explaining.explain.Goals as goal
 pub returns : goal.returns
 returns c compiled =
     let basis : Basis = record { packages = c.args.graph.now; default = default_of c.args.context.now } in
-    let e = tree_of c.args.tree.now in
+    let e = tree_of c.args.filterset.tree.now in
     let subjects = c.deref.result.now in
     let nodes = c.push_nodes.new.nodes.items in
     let path = c.in_ok-subjects.path in

@@ -20,5 +20,5 @@ returns c =
       c.in_ok-tests.ensures,
       (names, c.in_ok-names.ensures, some_or_none found Met First some none),
     ))
-    (rw (c.as_slice.ensures.value, c.as_slice-2.ensures.value) at c.find_listed.ensures.some)
-    (rw (c.as_slice.ensures.value, c.as_slice-2.ensures.value) at c.find_listed.ensures.none)
+    (rw (c.of-listed.ensures.tests, c.of-listed.ensures.groups, c.as_slice.ensures.value, c.as_slice-2.ensures.value) at c.find_listed.ensures.some)
+    (rw (c.of-listed.ensures.tests, c.of-listed.ensures.groups, c.as_slice.ensures.value, c.as_slice-2.ensures.value) at c.find_listed.ensures.none)
