@@ -1,5 +1,5 @@
-//! Reads the rows of a suite on standard input, puts each to the library, and writes a line for each difference and
-//! then the number of rows.
+//! Puts the rows of a suite to the library. Rows go in on standard input; a line for each difference and the number of rows
+//! come out. For the gate.
 #![tactic(auto)]
 
 mod asked;

@@ -1,6 +1,6 @@
-//! The program for people: checks filtersets and draws their faults, prints them, and shows which tests of a workspace they
-//! pick, how two differ, why one picks a test or not, and how the overrides of a profile apply to tests; decides questions
-//! about filtersets and every possible test; and serves editors and shells.
+//! The program for people. Words, files and standard input go in; answers come out: the faults of filtersets, how they print,
+//! the tests that they pick and why, how overrides apply, verdicts on every possible test, and what a language server says.
+//! For people, editors and shells.
 #![tactic(auto)]
 
 mod answering;

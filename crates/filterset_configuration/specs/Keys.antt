@@ -47,11 +47,11 @@ found_keys file = flat_map section_keys (sections_of file)
 
 -- ---- the unknown ones
 
--- a table has the key that the row's is with a letter behind it
+-- a table has the key that the row's is with a letter after it
 abbrev pub is_renamed : List KeyRow → KeyRow → Bool
 is_renamed rows row = list_any (λ other. bytes_eq other.prefix row.prefix && bytes_eq other.key (row.key ++ codes "_")) rows
 
--- The span is that of the key: with a letter behind the key there, which has no such key, the file has it.
+-- The span is that of the key: with a letter after the key there, which has no such key, the file has it.
 abbrev pub IsKeyPlace : Text → List KeyRow → KeyRow → SourceSpan → Type 0
 IsKeyPlace text rows row s = (before : Text) × (after : Text) × (file : Data)
     × (text ≡ before ++ (row.key ++ after)) × (s ≡ span (length before) (length row.key)) × IsFalse (is_renamed rows row)

@@ -42,6 +42,6 @@ pub record EndsPiece (Reads : Text → Text → Type 0) (file : Text) (at : ℕ)
 abbrev pub ReadsPiece : Delimiter → Text → Text → Text → Type 0
 ReadsPiece delimiter rest bytes next = read_piece delimiter rest ≡ Some (Some bytes, next)
 
--- it reads an escape behind its backslash
+-- it reads an escape after its backslash
 abbrev pub ReadsEscape : Bool → Text → Text → Text → Type 0
 ReadsEscape multi text bytes next = escape multi text ≡ Some (bytes, next)

@@ -1,5 +1,5 @@
-//! Reads nextest's configuration: where its filtersets and other strings are in the file, which keys it does not know, which
-//! values are wrong, and what each profile, and each of its overrides, sets.
+//! Reads nextest's configuration. Its text goes in; where its filtersets and other strings are, unknown keys, wrong values,
+//! and what each profile and override sets come out. For the commands and for what a language server says of documents.
 //!
 //! A profile falls back on the profile that it inherits from, or on `default`. What is set is decided by the first
 //! override, of the profile and then of those that it falls back on, which applies and sets it. An override applies to a

@@ -18,7 +18,7 @@ pub struct Place {
 impl Place {
     ghost use Rattle.filterset_configuration.specs.Places.{file_span, origin_at};
 
-    /// Returns what the byte at an offset of the filterset was read from. At the filterset's end or behind it, this is the
+    /// Returns what the byte at an offset of the filterset was read from. At the filterset's end or after it, this is the
     /// empty stretch before the closing delimiter.
     pub fn origin_of(&self, offset: usize) -> Stretch
         ensures { result ≡ origin_at self.now offset }

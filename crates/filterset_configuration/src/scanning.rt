@@ -6,7 +6,7 @@ use std::alloc::{AllocError, Global};
 use toml_parser::text::{first, skip_ws};
 use toml_parser::{ParseError, quoted, starts_string};
 
-/// A string of a document: what it is read as, whether it is a key or a part of one, and the offset behind it.
+/// A string of a document: what it is read as, whether it is a key or a part of one, and the offset after it.
 #[derive(Debug, Drop)]
 struct Scanned {
     text: String,
@@ -47,7 +47,7 @@ struct Context {
 }
 
 impl Context {
-    /// Returns the context behind a byte that is in no string.
+    /// Returns the context after a byte that is in no string.
     fn after(self, byte: u8) -> Context {
         let mut context = self;
         match byte {

@@ -27,7 +27,7 @@ fn is_multi_line(string: &str) -> bool
     byte_at(string, 1) == first(string) && byte_at(string, 2) == first(string)
 }
 
-/// Returns how many bytes of a string are before its text: one delimiter, or three and a line break behind them.
+/// Returns how many bytes of a string are before its text: one delimiter, or three and a line break after them.
 fn opening_length(string: &str) -> usize
     ensures value { result ≡ opening_length string.now }
     ensures bound { result ≤ 5 }
@@ -43,7 +43,7 @@ fn opening_length(string: &str) -> usize
     }
 }
 
-/// Returns whether the string at the front is read as `text`, and so many bytes are behind it.
+/// Returns whether the string at the front is read as `text`, and so many bytes are after it.
 fn is_read_as(alloc: Global, string: &str, text: &str, behind: usize) -> Result<bool, AllocError>
     ensures { IfOk result (λ is. OnTrue is ((after : Text) × (quoted string.now ≡ Some (text.now, after))
         × (length after ≡ behind))) }

@@ -53,7 +53,7 @@ fn split_around<'t>(text: &'t str, at: usize, key: &str) -> Option<(&'t str, &'t
     Some((before, after))
 }
 
-/// Returns whether one of these keys is in the table of `found`, and is its key with a letter behind it.
+/// Returns whether one of these keys is in the table of `found`, and is its key with a letter after it.
 fn is_renamed(keys: &[FoundKey<'_>], found: &FoundKey<'_>, renamed: &str) -> bool
     requires { renamed.now ≡ found.now.key.now ++ codes "_" }
     ensures { result ≡ is_renamed (key_rows keys.now) (key_row found.now) }
@@ -61,7 +61,7 @@ fn is_renamed(keys: &[FoundKey<'_>], found: &FoundKey<'_>, renamed: &str) -> boo
     keys.iter().any(|other| other.prefix == found.prefix && other.key == renamed)
 }
 
-/// Returns whether a text is a file that has the key with a letter behind it.
+/// Returns whether a text is a file that has the key with a letter after it.
 fn reads_renamed(
     alloc: Global,
     text: &str,
@@ -82,7 +82,7 @@ fn reads_renamed(
     }
 }
 
-/// Looks for the place of a key, at which a letter behind it makes a file with the other key. The key is the unknown one of
+/// Looks for the place of a key, at which a letter after it makes a file with the other key. The key is the unknown one of
 /// this number, from 0.
 fn place_of(
     alloc: Global,

@@ -21,7 +21,7 @@ place_of uri documents = position (λ d. bytes_eq (string_bytes d.uri) uri) docu
 abbrev pub document_of : Text → List Document → Option Document
 document_of uri documents = option_and_then (slice_get documents) (place_of uri documents)
 
--- the documents with this one in place of the one of its address, or behind the others
+-- the documents with this one in place of the one of its address, or after the others
 abbrev pub put_document : Document → List Document → List Document
 put_document document documents =
     option_map_or (λ i. slice_set documents i document) (place_of (string_bytes document.uri) documents) (documents ++ document ∷ [])

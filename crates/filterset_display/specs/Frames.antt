@@ -22,7 +22,7 @@ line_len (b ∷ bs) = if b == 13 && slice_index bs 0 == 10 then Some 0 else opti
 abbrev pub is_blank : ℕ → Bool
 is_blank b = b == 32 || b == 9
 
--- the number that digits write behind the digits of a number
+-- the number that digits write after the digits of a number
 unfoldable pub more_digits : ℕ → Bytes → Option ℕ
 more_digits n [] = Some n
 more_digits n (b ∷ bs) = if is_ascii_digit b then more_digits (10 * n + (b - 48)) bs else None
@@ -39,7 +39,7 @@ length_in value =
     let behind = drop count text in
     if count == 0 || nat_lt (prefix_len is_blank behind) (length behind) then None else allowed (more_digits 0 (take count text))
 
--- What is known of the message's length behind a field, if `found` was known before it. One field alone gives the length: that
+-- What is known of the message's length after a field, if `found` was known before it. One field alone gives the length: that
 -- with this name, in any case.
 abbrev pub behind_field : Option ℕ → Bytes → Bytes → Option (Option ℕ)
 behind_field found name value =
@@ -47,7 +47,7 @@ behind_field found name value =
     then (if is_some found then None else option_map Some (length_in value))
     else Some found
 
--- the same behind a line, which is a name, a colon and a value
+-- the same after a line, which is a name, a colon and a value
 abbrev pub behind_line : Option ℕ → Bytes → Option (Option ℕ)
 behind_line found line =
     option_and_then (λ at. behind_field found (take at line) (drop (at + 1) line)) (position (λ b. b == 58) line)
@@ -93,7 +93,7 @@ IsNext stream (next.TheVariants.Message from to) =
 abbrev pub framed : Bytes → Bytes
 framed message = codes "Content-Length: " ++ (decimal (length message) ++ (13 ∷ 10 ∷ 13 ∷ 10 ∷ message))
 
--- a stream that begins with the frame begins with this message, with no other, and then goes on as it did behind the frame
+-- a stream that begins with the frame begins with this message, with no other, and then goes on as it did after the frame
 abbrev pub ReadsBack : Bytes → Bytes → Type 0
 ReadsBack frame message =
     IsFrame frame message × ((other found more rest : Bytes) → IsFrame other found → frame ++ more ≡ other ++ rest

@@ -5,7 +5,7 @@ use Rattle.filterset_display.specs.Frames.{Bytes, behind_line, line_len, most_of
 use Rattle.filterset_display.specs.declared.head.Head.{Head}
 use Rattle.filterset_display.specs.declared.head.Head.TheVariants.{Partial, Malformed, Whole}
 
--- the head behind an empty line, before which these bytes are
+-- the head after an empty line, before which these bytes are
 abbrev pub ended : ℕ → Option ℕ → Head
 ended at None = Malformed
 ended at (Some length) = Whole (at + 2) length

@@ -12,7 +12,7 @@ Text = List ℕ
 abbrev pub ends_line : ℕ → ℕ → Bool
 ends_line b next = b == 10 || (b == 13 && not (next == 10))
 
--- where lines begin behind line breaks, in the rest of a text at this offset
+-- where lines begin after line breaks, in the rest of a text at this offset
 unfoldable pub starts_from : ℕ → Text → List ℕ
 starts_from at [] = []
 starts_from at (b ∷ bs) = if ends_line b (slice_index bs 0) then (at + 1) ∷ starts_from (at + 1) bs else starts_from (at + 1) bs
@@ -34,11 +34,11 @@ counted Utf32 c = 1
 abbrev pub units_of : Encoding → ℕ → ℕ
 units_of encoding c = if is_break c then 0 else counted encoding c
 
--- the column behind the front of a line
+-- the column after the front of a line
 abbrev pub column_of : Encoding → Text → ℕ
 column_of encoding front = sum_by (units_of encoding) (chars front)
 
--- The position of an offset: the last line that begins at or before it, and the column behind what of the line is before it.
+-- The position of an offset: the last line that begins at or before it, and the column after what of the line is before it.
 abbrev pub IsPosition : Encoding → Text → ℕ → Position → Type 0
 IsPosition encoding text offset position =
     (start : ℕ) × (slice_get (line_starts text) position.line ≡ Some start) × (start ≤ offset)
@@ -58,7 +58,7 @@ IsOffset encoding text position offset =
     MatchOption (slice_get (line_starts text) position.line) (offset ≡ length text)
     (λ start. offset ≡ start + bytes_before encoding position.character (chars (drop start text)))
 
--- the offset is in the line of this position, before its line break, behind as many units as the position says
+-- the offset is in the line of this position, before its line break, after as many units as the position says
 abbrev pub StandsAt : Encoding → Text → Position → ℕ → Type 0
 StandsAt encoding text position offset =
     (start : ℕ) × (slice_get (line_starts text) position.line ≡ Some start) × (start ≤ offset) × IsCharBoundary text offset

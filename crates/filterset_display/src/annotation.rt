@@ -16,7 +16,7 @@ pub struct Region<'t> {
     pub file: &'t str,
     /// Where the region begins.
     pub start: Location,
-    /// The location behind its last character, in the same line.
+    /// The location after its last character, in the same line.
     pub end: Location,
 }
 

@@ -14,7 +14,7 @@ pub enum Head {
     Partial,
     /// There is no head, however the stream goes on.
     Malformed,
-    /// How many bytes the head has, and how many the message behind it has.
+    /// How many bytes the head has, and how many the message after it has.
     Whole { head: usize, length: usize },
 }
 
@@ -88,7 +88,7 @@ fn length_in(value: &[u8]) -> Option<usize>
     number(&text[..count])
 }
 
-/// Returns what is known of the length behind a field.
+/// Returns what is known of the length after a field.
 fn behind_field(found: Option<usize>, name: &[u8], value: &[u8]) -> Option<Option<usize>>
     ensures value { result ≡ spec.behind_field found name.now value.now }
     ensures bound { IsBounded found → IfSome result IsBounded }
@@ -111,7 +111,7 @@ fn colon_at(line: &[u8]) -> Option<usize>
     line.iter().position(|byte| *byte == b':')
 }
 
-/// Returns what is known of the length behind a line.
+/// Returns what is known of the length after a line.
 fn behind_line(found: Option<usize>, line: &[u8]) -> Option<Option<usize>>
     ensures value { result ≡ spec.behind_line found line.now }
     ensures bound { IsBounded found → IfSome result IsBounded }

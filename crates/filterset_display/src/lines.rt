@@ -76,7 +76,7 @@ fn between(text: &str, from: usize, to: usize) -> &str
     }
 }
 
-/// Returns what is behind an offset of a text, if a character begins there.
+/// Returns what is after an offset of a text, if a character begins there.
 fn behind(text: &str, from: usize) -> &str
     requires { from ≤ length text.now }
     ensures value { IsCharBoundary text.now from → result.now ≡ drop from text.now }
@@ -136,7 +136,7 @@ impl Lines<'_> {
         position_of(self.text, self.starts.as_slice(), encoding, offset)
     }
 
-    /// Returns the offset of a position. A column behind the line's end is that end, and a line behind the last one is the end
+    /// Returns the offset of a position. A column after the line's end is that end, and a line after the last one is the end
     /// of the text.
     pub fn offset(&self, encoding: Encoding, position: Position) -> usize
         ensures value { IsOffset encoding self.now.text.now position result }

@@ -7,7 +7,7 @@ ghost use Rattle.filterset_display.specs.Positions as spec;
 pub enum Encoding {
     /// Bytes.
     Utf8,
-    /// Units of UTF-16: two for a character behind the first 65536, else one.
+    /// Units of UTF-16: two for a character after the first 65536, else one.
     Utf16,
     /// Characters.
     Utf32,
@@ -48,7 +48,7 @@ fn units(encoding: Encoding, character: char) -> usize
     }
 }
 
-/// Returns the column behind the front of a line.
+/// Returns the column after the front of a line.
 pub fn column(encoding: Encoding, front: &str) -> usize
     ensures { result ≡ spec.column_of encoding front.now }
 {

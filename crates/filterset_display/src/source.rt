@@ -99,7 +99,7 @@ impl<'t> Source<'t> {
         self.location_of(from, from)
     }
 
-    /// Returns the location behind the last character of a span, in the line of that character.
+    /// Returns the location after the last character of a span, in the line of that character.
     pub fn end_location(&self, span: SourceSpan) -> Location
         ensures { let text = self.now.text.now in EndsAt text (from_of text span) (to_of text span) result }
     {

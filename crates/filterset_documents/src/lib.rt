@@ -1,5 +1,5 @@
-//! Documents with filtersets, which are nextest's configuration and lists of filtersets: where their filtersets are, their
-//! diagnostics, and what is at an offset. For what a language server offers, does and says.
+//! Documents with filtersets: nextest's configuration, or lists. A text goes in; its filtersets with their places, what is at
+//! an offset, and diagnostics come out. For what a language server shows, offers and does.
 #![tactic(auto)]
 
 mod content;

@@ -1,5 +1,5 @@
-//! Faults of filterset texts, with their codes, spans, labels and help. The parser and the compiler make them; what shows
-//! faults to people and in editors reads them.
+//! Faults of filterset texts. What is wrong and where goes in; a code, a span, a label and help come out. For the parser and
+//! the compiler, which make them, and for all that shows faults to people and in editors.
 #![tactic(auto)]
 
 mod error;

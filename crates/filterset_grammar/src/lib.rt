@@ -1,6 +1,6 @@
 //! The definition of the language of filtersets: its trees, the texts that spell them, how trees print, when they are equal,
-//! and where parentheses are added. The code here is the enums of operators and predicates. For all that parses, compiles or
-//! rewrites.
+//! and where parentheses are added. It reads nothing: its code is the enums of operators and predicates. For all that
+//! parses, compiles or rewrites.
 #![tactic(auto)]
 
 mod operators;

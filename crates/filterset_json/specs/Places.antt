@@ -17,7 +17,7 @@ Names P refusal = (wrong : WrongValue) → refusal ≡ Wrong wrong → P (string
 abbrev pub Itself : {A : Type 0} → (Data → A → Type 0) → Text → Data → Place → Type 0
 Itself {A} P expected d place = (place ≡ ([], expected)) × ¬ ((x : A) × P d x)
 
--- P holds of the place as it is named from behind this step
+-- P holds of the place as it is named from after this step
 abbrev pub After : Text → (Place → Type 0) → Place → Type 0
 After step P place = (rest : Text) × (place.0 ≡ joined step rest) × P (rest, place.1)
 

@@ -30,7 +30,7 @@ impl Shell {
     }
 }
 
-/// Writes a character between apostrophes: an apostrophe and a backslash go outside of them, behind a backslash.
+/// Writes a character between apostrophes: an apostrophe and a backslash go outside of them, after a backslash.
 fn push_char(output: &mut String, c: char) -> Result<(), AllocError>
     ensures { OnOk result (string_bytes output.new ≡ string_bytes output.old ++ quoted_char c) }
 {

@@ -1,5 +1,5 @@
-//! What a workspace adds to a document with filtersets: the names that may be typed at a position, each of which stands where
-//! it is put; what a predicate means and matches; warnings of predicates that match nothing. Packages, a list of tests and
+//! What a workspace adds to a document with filtersets: the names that may be typed at a position, each valid
+//! there; what a predicate means and matches; warnings of predicates that match nothing. Packages, a list of tests and
 //! the document's filtersets go in; the values of a language server's answers come out. For the program `filterset`.
 #![tactic(auto)]
 

@@ -41,7 +41,7 @@ impl Bits {
         (self.words[position / 64] >> (position % 64)) & 1 == 1
     }
 
-    /// Returns a position behind this one and no later than `len`, such that the answers from this one on and before it are
+    /// Returns a position after this one and no later than `len`, such that the answers from this one on and before it are
     /// the same: the first of the same word with another answer, or where the word ends.
     pub(crate) fn run_end(&self, position: usize, len: usize) -> usize
         requires some { position < len }

@@ -52,7 +52,7 @@ impl Column {
         }
     }
 
-    /// Returns a position behind this one, such that the answers from this one on and before it are the same.
+    /// Returns a position after this one, such that the answers from this one on and before it are the same.
     pub fn run_end(&self, position: usize) -> usize
         requires { position < self.now.len }
         ensures later { position < result }

@@ -7,7 +7,7 @@ use Rattle.filterset_grammar.specs.{AddedParens.IsWithParens, Tree.Tree}
 use Rattle.filterset_rewriting.specs.Fronts.{IsExpression, NoExpression}
 use Rattle.filterset_rewriting.specs.{Links.IsOperator, Links.NoOperator, Links.linked, declared.links.Link.Link}
 
--- the text goes on with this sign behind white space, and then with the other text
+-- the text goes on with this sign after white space, and then with the other text
 abbrev pub Begins : ℕ → List ℕ → List ℕ → Type 0
 Begins b text behind = trim_start text ≡ b ∷ behind
 
@@ -15,12 +15,12 @@ Begins b text behind = trim_start text ≡ b ∷ behind
 abbrev pub Lacks : ℕ → List ℕ → Type 0
 Lacks b text = (behind : List ℕ) → Begins b text behind → ⊥
 
--- the sign behind an operand: a parenthesis behind the last one, else a comma
+-- the sign after an operand: a parenthesis after the last one, else a comma
 abbrev pub end_sign : Bool → ℕ
 end_sign true = sign ")"
 end_sign false = sign ","
 
--- ---- what a text begins with; the other text is behind that
+-- ---- what a text begins with; the other text is after that
 
 mutual
   -- an expression, or a call, which means one
@@ -34,7 +34,7 @@ mutual
     list : {link : Link} {first e : Tree SourceSpan} {text inside rest behind : List ℕ} → Begins (sign "(") text inside
         → IsOperand inside first (sign ",") rest → AreJoined link first rest e behind → IsList link text e behind
 
-  -- an operand, and the sign behind it
+  -- an operand, and the sign after it
   pub data IsOperand : List ℕ → Tree SourceSpan → ℕ → List ℕ → Type 0 where
     operand : {text rest behind : List ℕ} {e : Tree SourceSpan} {b : ℕ}
         → IsFront text e rest → Begins b rest behind → IsOperand text e b behind
@@ -65,7 +65,7 @@ mutual
     no_call : {n : ℕ} {text rest : List ℕ} {link : Link}
         → IsOperator text link rest → 0 < n → NoList (n - 1) rest → NoFront n text
 
-  -- no parenthesis, or behind it no operand, or one alone, or no parenthesis behind the last
+  -- no parenthesis, or after it no operand, or one alone, or no parenthesis after the last
   pub data NoList : ℕ → List ℕ → Type 0 where
     no_open : {n : ℕ} {text : List ℕ} → Lacks (sign "(") text → NoList n text
     no_first : {n : ℕ} {text inside : List ℕ} → Begins (sign "(") text inside → NoOperand n inside → NoList n text
@@ -79,7 +79,7 @@ mutual
     one_more : {n : ℕ} {text rest : List ℕ} {e : Tree SourceSpan}
         → IsOperand text e (sign ",") rest → AreOpen n rest → AreOpen n text
 
-  -- nothing of the kind, or neither sign behind it
+  -- nothing of the kind, or neither sign after it
   pub data NoOperand : ℕ → List ℕ → Type 0 where
     nothing : {n : ℕ} {text : List ℕ} → NoFront n text → NoOperand n text
     no_end : {n : ℕ} {text rest : List ℕ} {e : Tree SourceSpan}

@@ -14,7 +14,7 @@ pub record IsExpression (text : List ℕ) (e : Tree SourceSpan) (behind : List �
   pub whole : text ≡ own ++ behind
   pub spelled : Spells own e
 
--- the faults are not only the one that a text goes on behind an expression
+-- the faults are not only the one that a text goes on after an expression
 abbrev pub IsMore : List ℕ → List ParseSingleError → Type 0
 IsMore text faults = (s : SourceSpan) → faults ≡ ExpectedEndOfExpression s ∷ [] → IsCharBoundary text (offset_of s) → ⊥
 

@@ -15,11 +15,11 @@ pub data Says : List ℕ → Link → Type 0 where
   or_capitals : Says (codes "OR") (Any LiteralOr)
   or_sign : Says (codes "||") (Any Pipe)
 
--- the text does not go on with this word behind white space
+-- the text does not go on with this word after white space
 abbrev pub LacksWord : List ℕ → List ℕ → Type 0
 LacksWord word text = (rest : List ℕ) → trim_start text ≢ word ++ rest
 
--- the text begins with the operator behind white space, and goes on with the other text
+-- the text begins with the operator after white space, and goes on with the other text
 pub record IsOperator (text : List ℕ) (link : Link) (rest : List ℕ) : Type 0 where
   pub word : List ℕ
   pub says : Says word link

@@ -39,7 +39,7 @@ pub data PlainTokens : ℕ → Text → List Token → Type 0 where
   other : {at b : ℕ} {rest : Text} {tokens : List Token} → is_word_byte b ≡ false → is_sign b ≡ false
       → PlainTokens (at + 1) rest tokens → PlainTokens at (b ∷ rest) tokens
 
--- with the new tokens behind the old ones, those of the text without its first bytes become those of the text
+-- with the new tokens after the old ones, those of the text without its first bytes become those of the text
 abbrev pub Advances : ℕ → Text → ℕ → List Token → List Token → Type 0
 Advances at text len old new = (more : List Token) → PlainTokens (at + len) (drop len text) more
     → (all : List Token) × PlainTokens at text all × (old ++ all ≡ new ++ more)
@@ -85,7 +85,7 @@ argument_tokens form at text =
 abbrev pub gap_len : ℕ → Text → Argument → ℕ
 gap_len at rest argument = min (offset_of argument.span - at) (length rest)
 
--- how much of the rest of a text behind that is the argument
+-- how much of the rest of a text after that is the argument
 abbrev pub own_len : ℕ → Text → Argument → ℕ
 own_len at rest argument = min (length_of argument.span) (length rest - gap_len at rest argument)
 
@@ -101,7 +101,7 @@ AreTokensFrom at rest (leaf ∷ leaves) tokens = MatchOption (argument_of leaf) 
     × AreTokensFrom (at + (gap + own)) (drop (gap + own) rest) leaves behind
     × (tokens ≡ before ++ (argument_tokens argument.form (at + gap) (take own (drop gap rest)) ++ behind)))
 
--- the same of the predicates of a text, in place of those that come behind this offset
+-- the same of the predicates of a text, in place of those that come after this offset
 abbrev pub AdvancesTo : Text → List (Leaf SourceSpan) → ℕ → List (Leaf SourceSpan) → List Token → Type 0
 AdvancesTo text leaves at rest tokens = (more : List Token) → AreTokensFrom at (drop at text) rest more
     → AreTokensFrom 0 text leaves (tokens ++ more)

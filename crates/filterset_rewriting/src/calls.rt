@@ -13,7 +13,7 @@ use std::alloc::{AllocError, Global};
 /// How many levels of calls are read within a call.
 const LEVELS: usize = 64;
 
-/// Reads an operator at the front of a text and its operands behind it, as in `and(a, b)`, and makes the expression that is meant:
+/// Reads an operator at the front of a text and its operands after it, as in `and(a, b)`, and makes the expression that is meant:
 /// the operator between each two operands, with parentheses where they are needed. An operand may be such a call, up to 64 levels.
 ///
 /// Returns `None` if the text does not begin with an operator and two operands or more. The only error is out of memory. Each operand

@@ -10,14 +10,14 @@ use filterset_faults::{ParseSingleError, SourceSpan};
 use filterset_language::{Parsed, ParsedExpr};
 use std::alloc::{AllocError, Global};
 
-/// An expression at the front of a text, and the text behind it.
+/// An expression at the front of a text, and the text after it.
 #[derive(Debug, Drop)]
 pub struct Front<'t> {
     pub tree: ParsedExpr,
     pub behind: &'t str,
 }
 
-/// Returns the span of the only fault, if that is that a text goes on behind an expression.
+/// Returns the span of the only fault, if that is that a text goes on after an expression.
 fn only_end(faults: &[ParseSingleError]) -> Option<SourceSpan>
     ensures { MatchOption result ((s : SourceSpan) → faults.now ≢ ExpectedEndOfExpression s ∷ [])
         (λ s. faults.now ≡ ExpectedEndOfExpression s ∷ []) }
@@ -31,7 +31,7 @@ fn only_end(faults: &[ParseSingleError]) -> Option<SourceSpan>
     }
 }
 
-/// Reads an expression at the front of a text that goes on behind it.
+/// Reads an expression at the front of a text that goes on after it.
 pub fn read_expression<'t>(alloc: Global, text: &'t str) -> Result<Option<Front<'t>>, AllocError>
     ensures found { IfOk result (λ o. MatchOption o (NoExpression text.entry.now)
         (λ f. IsExpression text.entry.now (tree_of f.tree) f.behind.now)) }

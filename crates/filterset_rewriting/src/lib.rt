@@ -1,6 +1,6 @@
-//! Looks at filtersets without asking what they match: their tokens (`tokens`), how deeply they nest (`nesting`), and what
-//! means the same, with operators between their operands, with parentheses that show how an expression is read, or without
-//! the operator `^`. For commands and editors.
+//! Inspects and rewrites filtersets without asking what they match. A text or a tree goes in; its tokens (`tokens`), how
+//! deeply it nests (`nesting`), and texts that mean the same come out: with operators between operands, with parentheses
+//! that show how it is read, or without the operator `^`. For commands, editors and the library for C.
 #![tactic(auto)]
 
 mod calls;

@@ -14,7 +14,7 @@ pub enum Link {
     Any(OrOperator),
 }
 
-/// Returns what is behind a word, if the text goes on with it behind white space.
+/// Returns what is after a word, if the text goes on with it after white space.
 fn after_word<'t>(text: &'t str, word: &str) -> Option<&'t str>
     ensures found { MatchOption result (LacksWord word.now text.entry.now) (λ t. trim_start text.entry.now ≡ word.now ++ t.now) }
     ensures within { IfSome result (λ t. length t.now ≤ length text.entry.now) }
@@ -25,7 +25,7 @@ fn after_word<'t>(text: &'t str, word: &str) -> Option<&'t str>
     }
 }
 
-/// Returns the operator that a text begins with, and what is behind it.
+/// Returns the operator that a text begins with, and what is after it.
 pub fn read_operator(text: &str) -> Option<(Link, &str)>
     ensures found { MatchOption result (NoOperator text.now) (λ x. IsOperator text.now x.0 x.1.now) }
     ensures within { IfSome result (λ x. length x.1.now ≤ length text.now) }

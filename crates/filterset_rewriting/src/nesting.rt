@@ -25,7 +25,7 @@ pub const MOST_LEVELS: usize = 512;
 /// What comes of moving past a token.
 #[derive(Clone, Copy)]
 enum Step {
-    /// The level behind the token is within the limit.
+    /// The level after the token is within the limit.
     Within,
     /// The token passes the limit.
     TooDeep,
@@ -126,7 +126,7 @@ pub fn find_deep_place(alloc: Global, text: &str, limit: usize) -> Result<Option
 }
 
 /// Counts levels from a position on. Returns the offset of the first that passes the limit. A `)` counts that ends no
-/// argument, in a text without slashes and backslashes: those that do are the first behind their predicates.
+/// argument, in a text without slashes and backslashes: those that do are the first after their predicates.
 fn count_on(text: &[u8], start: usize, level: usize, limit: usize) -> Option<usize>
     requires { start ≤ length text.now }
     ensures { IfSome result (λ at. at < length text.now) }
@@ -147,7 +147,7 @@ fn count_on(text: &[u8], start: usize, level: usize, limit: usize) -> Option<usi
     None
 }
 
-/// Returns whether what follows may be a parenthesis or a negation. A `(` behind a word that is no operator begins an argument.
+/// Returns whether what follows may be a parenthesis or a negation. A `(` after a word that is no operator begins an argument.
 fn may_go_down(front: &[u8], rest: &[u8]) -> bool {
     match rest {
         [b'!', ..] | [b'n', b'o', b't', ..] => true,

@@ -8,7 +8,7 @@ use crate::links::{Link, link_trees, read_operator};
 use filterset_language::ParsedExpr;
 use std::alloc::{AllocError, Global};
 
-/// An operand at the front of a text, and the text behind the sign that ends it: a parenthesis behind the last one, else a comma.
+/// An operand at the front of a text, and the text after the sign that ends it: a parenthesis after the last one, else a comma.
 #[derive(Debug, Drop)]
 struct Operand<'t> {
     tree: ParsedExpr,
@@ -16,7 +16,7 @@ struct Operand<'t> {
     behind: &'t str,
 }
 
-/// Returns what is behind an ASCII sign, if the text goes on with it behind white space.
+/// Returns what is after an ASCII sign, if the text goes on with it after white space.
 fn after(text: &str, mark: char) -> Option<&str>
     requires { mark < 128 }
     ensures found { MatchOption result (Lacks mark text.now) (λ t. Begins mark text.now t.now) }
@@ -25,7 +25,7 @@ fn after(text: &str, mark: char) -> Option<&str>
     text.trim_start().strip_prefix(mark)
 }
 
-/// Returns the operand that an expression is, if a comma or a parenthesis is behind it.
+/// Returns the operand that an expression is, if a comma or a parenthesis is after it.
 fn end_operand<'t>(front: Front<'t>) -> Option<Operand<'t>>
     ensures found { MatchOption result (Lacks 44 front.entry.behind.now × Lacks 41 front.entry.behind.now)
         (λ x. (tree_of x.tree ≡ tree_of front.entry.tree) × Begins (end_sign x.is_last) front.entry.behind.now x.behind.now) }

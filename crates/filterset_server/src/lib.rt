@@ -1,5 +1,5 @@
 //! What a language server says of a document with filtersets, which is nextest's configuration or a list of filtersets,
-//! whatever workspace is known: symbols, tokens, folds, edits that format, and actions, each read again before it is offered.
+//! without a workspace: symbols, tokens, folds, edits that format, and actions, each read again before it is offered.
 //! An open document goes in; the values of its answers come out. For the program `filterset`.
 #![tactic(auto)]
 

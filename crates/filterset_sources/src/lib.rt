@@ -1,5 +1,5 @@
 //! Reads what `cargo metadata` and `cargo nextest list` write, and nextest's configuration. JSON and TOML go in; packages,
-//! suites of tests and filtersets with their places come out, or where a value is wrong. For commands and editors.
+//! suites of tests and filtersets come out, or where a value is wrong. For commands, editors and the library for C.
 #![tactic(auto)]
 
 mod configuration;

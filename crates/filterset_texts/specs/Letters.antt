@@ -4,7 +4,7 @@ use Rattle.std.specs.{Char.InScalarRange, List.All, List.Any, List.flat_map}
 use Rattle.filterset_texts.specs.{declared.letters.Letter.Letter, declared.part.Part.Part, Places.IsAdmittedAt}
 use Rattle.filterset_texts.specs.declared.part.Part.TheVariants as part
 
--- where the ranges begin, and where what is behind them begins
+-- where the ranges begin, and where what is after them begins
 abbrev pub cuts_of_ranges : List (ℕ × ℕ) → List ℕ
 cuts_of_ranges ranges = flat_map (λ range. range.0 ∷ (range.1 + 1) ∷ []) ranges
 
@@ -12,7 +12,7 @@ abbrev pub cuts_of_place : Option Part → List ℕ
 cuts_of_place (Some (part.One negated ranges)) = cuts_of_ranges ranges.items
 cuts_of_place _ = []
 
--- where the characters begin, also behind the gap of the surrogates, and where ranges begin and end
+-- where the characters begin, also after the gap of the surrogates, and where ranges begin and end
 abbrev pub cuts_of : List (Option Part) → List ℕ
 cuts_of row = 0 ∷ 0xE000 ∷ flat_map cuts_of_place row
 

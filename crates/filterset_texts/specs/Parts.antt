@@ -24,7 +24,7 @@ IsMetBy text condition = IsTrue condition.is_matched ↔ FitsSome condition.sequ
 abbrev pub Meets : List ℕ → List Condition → Type 0
 Meets text conditions = AllByRecursion (IsMetBy text) conditions
 
--- how many places there are before, between and behind the parts of the sequences
+-- how many places there are before, between and after the parts of the sequences
 abbrev pub place_count : List (Vec Part Global) → ℕ
 place_count [] = 0
 place_count (sequence ∷ sequences) = (length sequence.items + 1) + place_count sequences

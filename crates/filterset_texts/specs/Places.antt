@@ -1,4 +1,4 @@
--- The places before, between and behind the parts of sequences, and the texts that lead to them.
+-- The places before, between and after the parts of sequences, and the texts that lead to them.
 use Rattle.std.specs.Prelude.{◌≡◌, ◌↔◌, ◌+◌, ◌<◌, ◌++◌, ℕ, Bool, false, List, [], ◌∷◌, Option, Some, None, IsTrue, length, map, take, slice_index_or}
 use Rattle.std.specs.{Borrow.Bor, List.flat_map, declared.vec.Vec.Vec, declared.alloc.Global.Global}
 use Rattle.filterset_glob.specs.Matching.{InClass}

@@ -1,4 +1,4 @@
-//! The places before, between and behind the parts of sequences.
+//! The places before, between and after the parts of sequences.
 
 ghost use Rattle.std.specs.Prelude.{◌≡◌, ◌++◌, IfOk, OnOk};
 ghost use Rattle.filterset_texts.specs.Places.{places_of, places_of_parts, places_of_sequences, row_of};

@@ -30,7 +30,7 @@ pub struct Search {
 }
 
 /// Searches for a text that meets all conditions, and looks at `limit` states at most. A state is the set of the places
-/// that a text leads to, before, between and behind the parts of the sequences. Shorter texts are tried first.
+/// that a text leads to, before, between and after the parts of the sequences. Shorter texts are tried first.
 pub fn find_text(alloc: Global, conditions: &[Condition], limit: u64) -> Result<Search, AllocError>
     ensures found { IfOk result (λ search. IsRight conditions.now limit search.found) }
     ensures within_limit { IfOk result (λ search. search.states ≤ limit) }

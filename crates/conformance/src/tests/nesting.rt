@@ -27,7 +27,7 @@ static TEXTS: [(&str, usize, Option<usize>); 26] = [
     ("noté !!!", 2, Some(7)),
     ("not2 ((", 2, Some(6)),
     ("\t((", 1, Some(2)),
-    // Braces, one behind the other and one in another, in two arguments, and behind a parenthesis that does not end one.
+    // Braces, one after the other and one in another, in two arguments, and after a parenthesis that does not end one.
     ("binary({a}{b})", 1, None),
     ("binary({a{b}})", 1, Some(9)),
     ("binary({a) or binary({b)", 1, None),

@@ -38,7 +38,7 @@ After limit Close t outside base level within =
 After limit Predicate t outside base level within = Rest limit t outside base base within
 After limit Other t outside base level within = ⊥
 
--- the levels behind a token, by what came of moving past it
+-- the levels after a token, by what came of moving past it
 abbrev pub Passes : ℕ → List ℕ → Bool → Levels → Step → Type 0
 Passes limit t within levels Within = Rest limit t levels.outside.items levels.base levels.level within
 Passes limit t within levels TooDeep = within ≡ false

@@ -24,7 +24,7 @@ word_token word =
 abbrev pub is_letter : ℕ → Bool
 is_letter b = is_between b "a" "z" || (b ∈ "_")
 
--- the rest of a text goes on with the argument of the predicate of this name, and `t` is behind it
+-- the rest of a text goes on with the argument of the predicate of this name, and `t` is after it
 pub record IsPredicateAfter (name rest t : List ℕ) : Type 0 where
   pub argument : ArgumentKind
   pub named : argument_of name ≡ Some argument
@@ -34,7 +34,7 @@ pub record IsPredicateAfter (name rest t : List ℕ) : Type 0 where
   pub is_inside : IsArgument argument inside
   pub text : rest ≡ blanks ++ (40 ∷ (inside ++ 41 ∷ t))
 
--- the text begins with this token, and `t` is behind it
+-- the text begins with this token, and `t` is after it
 pub data Begins : List ℕ → Lexeme → List ℕ → Type 0 where
   sign : {b : ℕ} {t : List ℕ} {token : Lexeme} → sign_token b ≡ Some token → Begins (b ∷ t) token t
   word : {text t : List ℕ} {token : Lexeme} (own : List ℕ) → word_token own ≡ Some token

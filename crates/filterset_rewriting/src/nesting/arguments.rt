@@ -59,7 +59,7 @@ pub fn argument_of(name: &[u8]) -> Option<ArgumentKind>
     }
 }
 
-/// Returns what is behind a predicate, if it is spelled as one: the text begins behind its name.
+/// Returns what is after a predicate, if it is spelled as one: the text begins after its name.
 pub fn argument_end(argument: ArgumentKind, text: &[u8]) -> Option<&[u8]>
     ensures within { IfSome result (λ behind. length behind.now ≤ length text.now) }
     ensures behind { (blanks inside t : List ℕ) → Blanks blanks → IsArgument argument inside
@@ -76,7 +76,7 @@ pub fn argument_end(argument: ArgumentKind, text: &[u8]) -> Option<&[u8]>
     }
 }
 
-/// Returns what is behind the `)` that ends a raw text. There is none if a comma is before it.
+/// Returns what is after the `)` that ends a raw text. There is none if a comma is before it.
 fn raw_end(text: &[u8]) -> Option<&[u8]>
     ensures within { IfSome result (λ behind. length behind.now ≤ length text.now) }
     ensures behind { (inside t : List ℕ) → IsRaw inside
@@ -86,7 +86,7 @@ fn raw_end(text: &[u8]) -> Option<&[u8]>
     after_byte(rest, b')')
 }
 
-/// Returns what is behind a matcher and its `)`.
+/// Returns what is after a matcher and its `)`.
 fn matcher_end(text: &[u8]) -> Option<&[u8]>
     ensures within { IfSome result (λ behind. length behind.now ≤ length text.now) }
     ensures behind { (inside t : List ℕ) → IsMatcher inside
@@ -101,7 +101,7 @@ fn matcher_end(text: &[u8]) -> Option<&[u8]>
     after_byte(skip_blanks(end), b')')
 }
 
-/// Returns what is behind the byte, if the text begins with it.
+/// Returns what is after the byte, if the text begins with it.
 fn after_byte(text: &[u8], byte: u8) -> Option<&[u8]>
     ensures within { IfSome result (λ behind. length behind.now ≤ length text.now) }
     ensures behind { (t : List ℕ) → text.now ≡ byte ∷ t → MatchOption result ⊥ (λ behind. behind.now ≡ t) }

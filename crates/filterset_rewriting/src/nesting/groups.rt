@@ -7,7 +7,7 @@ fn ends_argument(before: u8, byte: u8) -> bool {
     byte == b')' && before != b'\\'
 }
 
-/// Returns whether braces behind a byte may be part of a class or of an escape: behind a `[` or `\u`, up to a `]` that is no
+/// Returns whether braces after a byte may be part of a class or of an escape: after a `[` or `\u`, up to a `]` that is no
 /// part of its class, or the end of the argument.
 fn hides_braces(before: u8, is_hidden: bool, byte: u8) -> bool {
     match byte {
@@ -18,7 +18,7 @@ fn hides_braces(before: u8, is_hidden: bool, byte: u8) -> bool {
     }
 }
 
-/// Returns how many braces are open behind a byte. One that may be hidden closes none.
+/// Returns how many braces are open after a byte. One that may be hidden closes none.
 fn braces_behind(before: u8, is_hidden: bool, count: usize, byte: u8) -> usize
     requires { byte ≡ 123 → count + 1 < 2 ^ 64 }
     ensures opens { byte ≡ 123 → result ≡ count + 1 }

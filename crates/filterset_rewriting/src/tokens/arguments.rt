@@ -6,7 +6,7 @@ use filterset_faults::SourceSpan;
 pub(crate) enum ArgumentForm {
     /// A regular expression between slashes.
     Regex,
-    /// A text behind a sign.
+    /// A text after a sign.
     Signed,
     /// A text.
     Plain,
