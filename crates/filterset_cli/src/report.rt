@@ -57,12 +57,11 @@ fn refusal(alloc: Global, line: &str) -> Result<(String, ReportOutcome), AllocEr
     Ok((String::from_str(alloc, line)?, ReportOutcome::RecordRefused))
 }
 
-/// What a record asks of its packages and groups.
+/// What a record asks of its tests.
 #[derive(Drop)]
 struct Questions {
     filtersets: Vec<FiltersetEntry>,
     default_filter: String,
-    binaries: Vec<BinaryEntry>,
     command: Command,
 }
 
@@ -86,10 +85,9 @@ fn report_record(alloc: Global, entries: Record) -> Result<(String, ReportOutcom
     let asked = Questions {
         filtersets,
         default_filter,
-        binaries,
         command,
     };
-    report_filtersets(alloc, &graph, known_groups, asked)
+    report_filtersets(alloc, &graph, known_groups, &binaries, asked)
 }
 
 /// Writes the line that says why packages make no graph.
@@ -113,6 +111,7 @@ fn report_filtersets(
     alloc: Global,
     graph: &PackageGraph,
     known_groups: KnownGroups,
+    binaries: &[BinaryEntry],
     asked: Questions,
 ) -> Result<(String, ReportOutcome), AllocError>
     requires graph { AllDiffer (ids graph.now) × LinksKnown graph.now }
@@ -122,17 +121,15 @@ fn report_filtersets(
       packages = graph.now;
       groups = names;
       default_filter = string_bytes asked.default_filter;
-      binaries = map binary_row asked.binaries.items;
+      binaries = map binary_row binaries.now;
       command = asked.command;
     }) (string_bytes made.0) made.1) }
 {
     let Questions {
         filtersets,
         default_filter,
-        binaries,
         command,
     } = asked;
-    let binaries = binaries.as_slice();
     let parse_context = ParseContext::new(alloc, graph)?;
     let kind = FiltersetKind::DefaultFilter;
     match Filterset::parse(alloc, default_filter, &parse_context, kind, &known_groups) {

@@ -1,4 +1,4 @@
-use Rattle.std.proofs.Common.{◌∙◌, List, ap, map, string_bytes, subst, sym}
+use Rattle.std.proofs.Common.{List, ap, map, string_bytes, subst, sym}
 use Rattle.std.proofs.lemmas.Result.{IfOk-weaker}
 use Rattle.filterset_language.specs.Views.{tree_of}
 use Rattle.filterset_faults.specs.declared.kind.FiltersetKind.TheVariants as kinds
@@ -25,10 +25,10 @@ returns-in_ok-lookup-in-Ok c =
       packages = c.args.graph.now;
       groups = names;
       default_filter = string_bytes c.args.asked.default_filter;
-      binaries = map binary_row c.args.asked.binaries.items;
+      binaries = map binary_row c.args.binaries.now;
       command = c.args.asked.command;
     } in
     reported row packages c.args.known_groups default (map binary_row c.in_ok-lookup-in-Ok.lookup.binaries.now) (string_bytes made.0) made.1 all
-    c.in_ok-parse_context.ensures (ap (map binary_row) (c.in_ok-lookup-in-Ok.ensures ∙ c.as_slice-binaries.ensures.value))
+    c.in_ok-parse_context.ensures (ap (map binary_row) c.in_ok-lookup-in-Ok.ensures)
     (λ output all over. (c.args.known_groups, tree, default, c.requires.graph.0, c.requires.graph.1, are, over_graph.0, over_graph.1, over))
     sections says) c.report_sections.ensures

@@ -4,6 +4,7 @@ use Rattle.filterset_graph.specs.Packages.{AllDiffer, LinksKnown, ids}
 use Rattle.filterset_graph.specs.declared.package.PackageMetadata.{PackageMetadata}
 use Rattle.filterset_record.specs.{Record.RecordRow, Rows.binary_row, Rows.filterset_row}
 use Rattle.filterset_cli.specs.Report.{RecordReport}
+use Rattle.filterset_record.specs.declared.record.binaries.BinaryEntry.{BinaryEntry}
 use Rattle.filterset_cli.proofs.report.report_record.Goals as goal
 
 pub returns-in-Err : goal.returns-in-Err
@@ -14,15 +15,14 @@ report_filtersets-requires-clause-graph c = subst (λ (packages : List PackageMe
 
 pub returns : goal.returns
 returns c =
-    let entries = c.args.entries in
-    let row : List PackageMetadata → RecordRow = λ packages. record {
-      filtersets = map filterset_row entries.filtersets.items;
+    let row : List PackageMetadata → List BinaryEntry → RecordRow = λ packages binaries. record {
+      filtersets = map filterset_row c.args.entries.filtersets.items;
       packages = packages;
-      groups = map (λ s. string_bytes s) entries.groups.items;
-      default_filter = string_bytes entries.default_filter;
-      binaries = map binary_row entries.binaries.items;
-      command = entries.command;
+      groups = map (λ s. string_bytes s) c.args.entries.groups.items;
+      default_filter = string_bytes c.args.entries.default_filter;
+      binaries = map binary_row binaries;
+      command = c.args.entries.command;
     } in
     IfOk-weaker c.report_filtersets.result _ _ (λ made report.
-    subst (λ (packages : List PackageMetadata). RecordReport (row packages) (string_bytes made.0) made.1) c.in-Ok.ensures.ok
-    (report _ c.in_ok-known_groups.ensures.groups)) c.report_filtersets.ensures
+    subst (λ (packages : List PackageMetadata). RecordReport (row packages c.args.entries.binaries.items) (string_bytes made.0) made.1) c.in-Ok.ensures.ok
+    (subst (λ (binaries : List BinaryEntry). RecordReport (row c.in-Ok.graph binaries) (string_bytes made.0) made.1) c.deref.ensures.value (report _ c.in_ok-known_groups.ensures.groups))) c.report_filtersets.ensures
